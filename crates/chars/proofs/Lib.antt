@@ -1,0 +1,2 @@
+pub mod Decoding
+mod Sequences
