@@ -9,10 +9,10 @@ use lib.ListN.{length, getD, take, drop, length-append, take-append-drop}
 use Rattle.std.proofs.shelf.Lists.{take-rest, take-at, drop-at}
 use Rattle.std.specs.declared.option.Option.{Option}
 use Rattle.std.specs.declared.option.Option.the-variants.{Some, None}
-use Rattle.std.specs.Options.{mapped}
-use Rattle.std.proofs.shelf.Tests.{both-ways, cases-lt, and-from, and-parts, cond-true}
+use Rattle.std.specs.Options.{mapped, isSome, valueOr}
+use Rattle.std.proofs.shelf.Tests.{both-ways, false≢true, cases-lt, and-from, and-parts, cond-true}
 use Rattle.std.proofs.shelf.Ways.{tells}
-use Rattle.chars.specs.Utf8.{scalar, scalars, encode, encodes, low-six, one-byte, two-bytes, three-bytes, four-bytes, of-two, of-three, of-four, decode, decode-two, decode-three, decode-four, Front, Malformed-at}
+use Rattle.chars.specs.Utf8.{scalar, scalars, encode, encodes, low-six, one-byte, two-bytes, three-bytes, four-bytes, of-two, of-three, of-four, decode, decode-two, decode-three, decode-four, utf8, decoded, Front, Malformed-at}
 use Rattle.chars.proofs.Sequences.{one-scalar, two-scalar, three-scalar, four-scalar, encode-one, encode-two, encode-three, encode-four, one-encodes, two-encodes, three-encodes, four-encodes, spells-two, spells-three, spells-four}
 
 -- no sequence of one to four bytes stands at the front
@@ -192,9 +192,9 @@ decoded-within : (n : ℕ) (s cs : List ℕ) → length s ≤ n → decode s ≡
 decoded-within zero s cs l e = decoded-step s cs (λ r ds k q. absurd (omega arith)) e (look s)
 decoded-within (suc n) s cs l e = decoded-step s cs (λ r ds k q. decoded-within n r ds (omega arith) q) e (look s)
 
-pub decoded : (s cs : List ℕ) → decode s ≡ Some cs → (scalars cs ≡ true) × (encodes cs ≡ s)
+pub decode-exact : (s cs : List ℕ) → decode s ≡ Some cs → (scalars cs ≡ true) × (encodes cs ≡ s)
 unfolding Exact
-decoded s cs e = decoded-within (length s) s cs (omega arith) e
+decode-exact s cs e = decoded-within (length s) s cs (omega arith) e
 
 -- the bytes of scalar values decode to these
 pub decode-encodes : (cs : List ℕ) → scalars cs ≡ true → decode (encodes cs) ≡ Some cs
@@ -258,8 +258,8 @@ pub read-more : (s rest left : List ℕ) (c : ℕ) → scalar c ≡ true → res
 read-more s rest left c k e (cs, h, p) =
     (cs ++ c ∷ [], scalars-push cs c h k, p ∙ ap (λ z. encodes cs ++ z) e ∙ sym (append-assoc (encodes cs) (encode c) left) ∙ ap (λ z. z ++ left) (sym (encodes-push cs c)))
 
-pub read-all : (s rest : List ℕ) → rest ≡ [] → Read s rest → (cs : List ℕ) × (decode s ≡ Some cs)
-read-all s rest e (cs, h, p) = (cs, ap decode (p ∙ ap (λ z. encodes cs ++ z) e ∙ append-nil (encodes cs)) ∙ decode-encodes cs h)
+pub read-all : (s rest : List ℕ) → rest ≡ [] → Read s rest → utf8 s ≡ true
+read-all s rest e (cs, h, p) = ap isSome (ap decode (p ∙ ap (λ z. encodes cs ++ z) e ∙ append-nil (encodes cs)) ∙ decode-encodes cs h)
 
 pub read-broken : (s rest : List ℕ) (at : ℕ) → at ≡ length s - length rest → 0 < length rest → Front rest None → Read s rest → Malformed-at s (Some at)
 read-broken s rest at q l f (cs, h, p) =
@@ -267,10 +267,39 @@ read-broken s rest at q l f (cs, h, p) =
     let here : length (encodes cs) ≡ at = omega arith in
     let done : take at s ≡ encodes cs = ap (take at) p ∙ take-at (encodes cs) rest at here in
     let left : drop at s ≡ rest = ap (drop at) p ∙ drop-at (encodes cs) rest at here in
-    (ap decode p ∙ decode-none-behind cs rest h (front-none-decode rest l f),
+    (ap isSome (ap decode p ∙ decode-none-behind cs rest h (front-none-decode rest l f)),
      omega arith,
-     (cs, ap decode done ∙ decode-encodes cs h),
+     ap isSome (ap decode done ∙ decode-encodes cs h),
      subst (λ z. Front z None) (sym left) f)
 
 pub shorter : (s r : List ℕ) (c : ℕ) → scalar c ≡ true → s ≡ encode c ++ r → length r < length s
 shorter s r c h e = omega (arith, encode-long c h, ap length e ∙ length-append (encode c) r)
+
+-- the same, of bytes that are UTF-8
+isSome-mapped : {A B : Type 0} (f : A → B) (o : Option A) → isSome (mapped f o) ≡ isSome o
+isSome-mapped f None = refl
+isSome-mapped f (Some x) = refl
+
+pub utf8-past : (s r : List ℕ) (c : ℕ) → scalar c ≡ true → s ≡ encode c ++ r → utf8 s ≡ utf8 r
+utf8-past s r c h e = ap utf8 e ∙ ap isSome (decode-past c r h) ∙ isSome-mapped (λ cs. c ∷ cs) (decode r)
+
+pub decoded-past : (s r : List ℕ) (c : ℕ) → scalar c ≡ true → s ≡ encode c ++ r → utf8 s ≡ true → decoded s ≡ c ∷ decoded r
+decoded-past s r c h e u = ap decoded e ∙ ap (λ o. valueOr o []) (decode-past c r h) ∙ step (decode r) (sym (utf8-past s r c h e) ∙ u)
+  where
+    step : (o : Option (List ℕ)) → isSome o ≡ true → valueOr (mapped (λ cs. c ∷ cs) o) [] ≡ c ∷ valueOr o []
+    step None k = absurd (false≢true k)
+    step (Some cs) k = refl
+
+pub utf8-broken : (s : List ℕ) → 0 < length s → Front s None → utf8 s ≡ false
+utf8-broken s l f = ap isSome (front-none-decode s l f)
+
+pub encodes-decoded : (s : List ℕ) → utf8 s ≡ true → (scalars (decoded s) ≡ true) × (encodes (decoded s) ≡ s)
+encodes-decoded s u = step (decode s) refl u
+  where
+    step : (o : Option (List ℕ)) → decode s ≡ o → isSome o ≡ true → (scalars (valueOr (decode s) []) ≡ true) × (encodes (valueOr (decode s) []) ≡ s)
+    step None e k = absurd (false≢true k)
+    step (Some cs) e k = let x = decode-exact s cs e in (ap (λ o. scalars (valueOr o [])) e ∙ x .0, ap (λ o. encodes (valueOr o [])) e ∙ x .1)
+
+pub decode-nil : decode [] ≡ Some []
+unfolding decode
+decode-nil = refl

@@ -8,7 +8,7 @@ use lib.ListN.{length, take, drop}
 use lib.Dec.{eqb, leb, ltb}
 use Rattle.std.specs.declared.option.Option.{Option}
 use Rattle.std.specs.declared.option.Option.the-variants.{Some, None}
-use Rattle.std.specs.Options.{mapped}
+use Rattle.std.specs.Options.{mapped, isSome, valueOr}
 
 -- lo ≤ n ≤ hi
 abbrev pub within : ℕ → ℕ → ℕ → Bool
@@ -83,6 +83,13 @@ unfoldable mutual
   decode-four a b c [] = None
   decode-four a b c (d ∷ s) = elim (four-bytes a b c d) [ true ↦ mapped (λ cs. of-four a b c d ∷ cs) (decode s) | false ↦ None ]
 
+-- The bytes are UTF-8; the scalar values that they then spell
+abbrev pub utf8 : List ℕ → Bool
+utf8 s = isSome (decode s)
+
+abbrev pub decoded : List ℕ → List ℕ
+decoded s = valueOr (decode s) []
+
 -- Where the bytes begin with a scalar value: the value and how many bytes it has; or that they begin with none
 abbrev pub Front : List ℕ → Option (ℕ × ℕ) → Type 0
 Front s None = (c : ℕ) (r : List ℕ) → scalar c ≡ true → s ≡ encode c ++ r → ⊥
@@ -90,9 +97,8 @@ Front s (Some f) = (scalar (f .0) ≡ true) × (take (f .1) s ≡ encode (f .0))
 
 -- Where the bytes are not UTF-8: the first byte at which no scalar value begins, if there is one
 abbrev pub Malformed-at : List ℕ → Option ℕ → Type 0
-Malformed-at s None = (cs : List ℕ) × (decode s ≡ Some cs)
-Malformed-at s (Some at) =
-    (decode s ≡ None) × (at < length s) × ((cs : List ℕ) × (decode (take at s) ≡ Some cs)) × Front (drop at s) None
+Malformed-at s None = utf8 s ≡ true
+Malformed-at s (Some at) = (utf8 s ≡ false) × (at < length s) × (utf8 (take at s) ≡ true) × Front (drop at s) None
 
 -- Decoding is exact: what decodes is scalar values whose bytes are these, and the bytes of scalar values decode to them.
 -- So bytes spell at most one list of scalar values.

@@ -1,0 +1,4 @@
+pub mod Puts
+pub mod Sinks
+pub mod Buffers
+pub mod Laws

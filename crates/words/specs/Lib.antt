@@ -1,0 +1,6 @@
+pub mod Escapes
+pub mod Names
+pub mod Numerals
+pub mod RawText
+pub mod Refusals
+pub mod Writes
