@@ -183,9 +183,10 @@ decoded-step s cs ih e (ended p) =
     (ap scalars none, ap encodes none ∙ sym p)
 decoded-step s cs ih e (begun c r h p l) =
     let parts = added c (decode r) cs (sym (decode-past c r h) ∙ ap decode (sym p) ∙ e) in
-    let rest = ih r (parts .0) l (parts .1) in
-    (ap scalars (parts .2) ∙ and-from (scalar c) (scalars (parts .0)) h (rest .0),
-     ap encodes (parts .2) ∙ ap (λ z. encode c ++ z) (rest .1) ∙ sym p)
+    let rest = ih r (parts .0) l (parts .1) in (
+      ap scalars (parts .2) ∙ and-from (scalar c) (scalars (parts .0)) h (rest .0),
+      ap encodes (parts .2) ∙ ap (λ z. encode c ++ z) (rest .1) ∙ sym p,
+    )
 decoded-step s cs ih e (broken p) = let z : _≡_ {A = ℕ} 0 1 = cc in absurd (omega arith)
 
 decoded-within : (n : ℕ) (s cs : List ℕ) → length s ≤ n → decode s ≡ Some cs → Exact s cs
@@ -266,11 +267,12 @@ read-broken s rest at q l f (cs, h, p) =
     let long : length s ≡ length (encodes cs) + length rest = ap length p ∙ length-append (encodes cs) rest in
     let here : length (encodes cs) ≡ at = omega arith in
     let done : take at s ≡ encodes cs = ap (take at) p ∙ take-at (encodes cs) rest at here in
-    let left : drop at s ≡ rest = ap (drop at) p ∙ drop-at (encodes cs) rest at here in
-    (ap isSome (ap decode p ∙ decode-none-behind cs rest h (front-none-decode rest l f)),
-     omega arith,
-     ap isSome (ap decode done ∙ decode-encodes cs h),
-     subst (λ z. Front z None) (sym left) f)
+    let left : drop at s ≡ rest = ap (drop at) p ∙ drop-at (encodes cs) rest at here in (
+      ap isSome (ap decode p ∙ decode-none-behind cs rest h (front-none-decode rest l f)),
+      omega arith,
+      ap isSome (ap decode done ∙ decode-encodes cs h),
+      subst (λ z. Front z None) (sym left) f,
+    )
 
 pub shorter : (s r : List ℕ) (c : ℕ) → scalar c ≡ true → s ≡ encode c ++ r → length r < length s
 shorter s r c h e = omega (arith, encode-long c h, ap length e ∙ length-append (encode c) r)

@@ -23,7 +23,12 @@ impl Encoded {
         } else if n <= 0xFFFF {
             Encoded::Three([(0xE0 + n / 4096) as u8, last_six(n / 64), last_six(n)])
         } else {
-            Encoded::Four([(0xF0 + n / 262144) as u8, last_six(n / 4096), last_six(n / 64), last_six(n)])
+            Encoded::Four([
+                (0xF0 + n / 262144) as u8,
+                last_six(n / 4096),
+                last_six(n / 64),
+                last_six(n),
+            ])
         }
     }
 

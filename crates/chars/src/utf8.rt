@@ -148,7 +148,9 @@ fn from_two(a: u8, b: u8) -> u32
 fn from_three(a: u8, b: u8, c: u8) -> u32
     ensures { λ r. ⌜ r ≡ of-three a b c ⌝ }
 {
-    u32::from(a.saturating_sub(0xE0)) * 4096 + u32::from(b.saturating_sub(0x80)) * 64 + u32::from(c.saturating_sub(0x80))
+    u32::from(a.saturating_sub(0xE0)) * 4096
+        + u32::from(b.saturating_sub(0x80)) * 64
+        + u32::from(c.saturating_sub(0x80))
 }
 
 fn from_four(a: u8, b: u8, c: u8, d: u8) -> u32

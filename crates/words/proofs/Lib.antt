@@ -1,2 +1,5 @@
+pub mod Measured
 mod Numbers
 mod Runs
+mod TextOf
+pub mod Writing

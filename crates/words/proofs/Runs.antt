@@ -31,15 +31,19 @@ module _ (shown : ℕ → Bool) where
       let long : length (take n s ++ encode c) ≡ m = omega (arith, ap length split, length-append (take n s ++ encode c) left) in
       let behind : drop m s ≡ left = ap (drop m) split ∙ drop-at (take n s ++ encode c) left m long in
       let front : take m s ≡ take n s ++ encode c = ap (take m) split ∙ take-at (take n s ++ encode c) left m long in
-      let more = escapes shown (decoded left) in
-      (omega arith, sym behind, λ u.
-        let q = f u in
-        (ap utf8 behind ∙ sym (utf8-past (drop n s) left c h here) ∙ q .0,
-         q .1
-         ∙ ap (λ z. take n s ++ z) (escapes-past (drop n s) left c h here (q .0) ∙ ap (λ z. z ++ more) (sym p))
-         ∙ sym (append-assoc (take n s) (encode c) more)
-         ∙ ap (λ z. z ++ more) (sym front)
-         ∙ ap (λ z. take m s ++ escapes shown (decoded z)) (sym behind)))
+      let more = escapes shown (decoded left) in (
+        omega arith,
+        sym behind,
+        λ u.
+            let q = f u in (
+              ap utf8 behind ∙ sym (utf8-past (drop n s) left c h here) ∙ q .0,
+              q .1
+                  ∙ ap (λ z. take n s ++ z) (escapes-past (drop n s) left c h here (q .0) ∙ ap (λ z. z ++ more) (sym p))
+                  ∙ sym (append-assoc (take n s) (encode c) more)
+                  ∙ ap (λ z. z ++ more) (sym front)
+                  ∙ ap (λ z. take m s ++ escapes shown (decoded z)) (sym behind),
+            ),
+      )
 
   -- what a run leaves to escape
   pub run-parts : (s front back : List ℕ) (n : ℕ) → front ≡ take n s → back ≡ drop n s → utf8 s ≡ true → Plain-front shown s n

@@ -1,6 +1,6 @@
 -- Escaped text: a RON string in double quotes, in which every character that is not shown has an escape.
 -- A character is its number; `shown` is the table's set of the characters that stand for themselves. Assumes nothing.
-use mathlib.Core.Bool.{Bool, true, cond, _||_}
+use mathlib.Core.Bool.{Bool, true, cond}
 use mathlib.Core.List.{List, [], _∷_, _++_}
 use mathlib.Core.Path.{_≡_}
 use Prim.Native.Nat.{ℕ}
@@ -9,6 +9,7 @@ use lib.Dec.{eqb}
 use lib.ListN.{take, drop}
 use Rattle.std.specs.Joined.{joined}
 use Rattle.chars.specs.Utf8.{encode, utf8, decoded}
+use Rattle.words.specs.Classes.{quoting}
 use Rattle.words.specs.Numerals.{numeral}
 use Rattle.words.specs.declared.text.Escape.{Escape}
 use Rattle.words.specs.declared.text.Escape.the-variants.{Plain, Short, Code}
@@ -18,10 +19,6 @@ backslash = 0x5C
 
 abbrev pub quote : ℕ
 quote = 0x22
-
--- both quotes and the backslash
-abbrev pub quoting : ℕ → Bool
-quoting c = eqb c quote || eqb c 0x27 || eqb c backslash
 
 -- \u{h}, with the character's number in hexadecimal
 abbrev pub code : ℕ → List ℕ

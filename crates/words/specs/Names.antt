@@ -6,13 +6,9 @@ use Prim.Native.Nat.{ℕ}
 use lib.Chars.{codes}
 use lib.Dec.{eqb}
 use Rattle.chars.specs.Utf8.{encodes}
+use Rattle.words.specs.Classes.{all, raw-char}
 use Rattle.words.specs.declared.name.Form.{Form}
 use Rattle.words.specs.declared.name.Form.the-variants.{Bare, Raw}
-
--- every one of a list is in the set
-abbrev pub all : (ℕ → Bool) → List ℕ → Bool
-all p [] = true
-all p (c ∷ cs) = p c && all p cs
 
 abbrev pub same : List ℕ → List ℕ → Bool
 same [] [] = true
@@ -28,10 +24,6 @@ reserved cs =
     || same cs (codes "NaN") || same cs (codes "NaNf32") || same cs (codes "NaNf64")
 
 module _ (starts continues : ℕ → Bool) where
-  -- what a name behind `r#` is made of: continue characters, `.`, `+` and `-`
-  abbrev pub raw-char : ℕ → Bool
-  raw-char c = continues c || eqb c 0x2E || eqb c 0x2B || eqb c 0x2D
-
   -- what a bare name begins with
   abbrev pub first-char : ℕ → Bool
   first-char c = eqb c 0x5F || starts c
@@ -39,7 +31,7 @@ module _ (starts continues : ℕ → Bool) where
   -- a name is not empty, and of raw characters
   abbrev pub name : List ℕ → Bool
   name [] = false
-  name (c ∷ cs) = all raw-char (c ∷ cs)
+  name (c ∷ cs) = all (raw-char continues) (c ∷ cs)
 
   -- the names that stand bare
   abbrev pub bare : List ℕ → Bool

@@ -1,5 +1,6 @@
 // The words of a RON text: one literal each, written to any output.
+pub mod class;
 pub mod name;
-pub mod refusal;
 mod numeral;
+pub mod refusal;
 pub mod text;

@@ -11,9 +11,9 @@ ghost use Rattle.words.specs.Escapes.{escape, written, code, escapes, escaped-
 ghost use Rattle.words.specs.Refusals.{text-refusal};
 ghost use Rattle.words.specs.Writes.{Writes};
 use crate::numeral::put_numeral;
-use crate::refusal::check_text;
 use crate::refusal::FullRefusal;
 use crate::refusal::Refusal;
+use crate::refusal::check_text;
 use chars::encoding::Encoded;
 use chars::table::CharTable;
 use chars::utf8::Scalars;
@@ -104,7 +104,11 @@ fn put_escapes<O: Output, T: CharTable>(out: &mut O, table: &T, text: &[u8]) -> 
 }
 
 /// An escaped text: in double quotes, with an escape for each character that the table does not show.
-pub fn serialize_escaped_str<O: Output, T: CharTable>(out: &mut O, table: &T, value: &[u8]) -> Result<(), Refusal>
+pub fn serialize_escaped_str<O: Output, T: CharTable>(
+    out: &mut O,
+    table: &T,
+    value: &[u8],
+) -> Result<(), Refusal>
     ensures { λ r. ⌜ Writes (O·Output .room) (O·Output .took) (text-refusal (now (value .entry))) (now (out .entry)) (escaped-str (T·CharTable .shown (now (table .entry))) (decoded (now (value .entry)))) r (now (out .exit)) ⌝ }
 {
     check_text(value)?;

@@ -53,6 +53,7 @@ loop-cursor-again g c =
     let s = c .in-Scalar .ensures tt in
     let p = run-parts shown (c .loop-cursor .rest .now) _ (c .split-at .result .1 .now) _ (c .split-at .ensures .front) (c .split-at .ensures .back) (i .0) (c .plain-run .ensures .plain) in
     let q = sym (c .new-cursor .ensures .rest) ∙ s .1 in
-    let e = escapes-past shown (c .split-at .result .1 .now) _ _ (s .0) q (p .0) in
-    (ap utf8 (c .rest-rest .ensures) ∙ sym (utf8-past (c .split-at .result .1 .now) _ _ (s .0) q) ∙ p .0,
-     λ r b h. i .1 r b (puts-as (sym (p .1)) (puts-then (g .O·Output .adds) (c .in-Continue-put .ensures tt .puts) (puts-as (sym e) (puts-then (g .O·Output .adds) (puts-as (c .escape-of .ensures) (c .in-Continue-put-escape .ensures tt)) (puts-as (ap (λ z. escapes shown (decoded z)) (c .rest-rest .ensures)) h))))))
+    let e = escapes-past shown (c .split-at .result .1 .now) _ _ (s .0) q (p .0) in (
+      ap utf8 (c .rest-rest .ensures) ∙ sym (utf8-past (c .split-at .result .1 .now) _ _ (s .0) q) ∙ p .0,
+      λ r b h. i .1 r b (puts-as (sym (p .1)) (puts-then (g .O·Output .adds) (c .in-Continue-put .ensures tt .puts) (puts-as (sym e) (puts-then (g .O·Output .adds) (puts-as (c .escape-of .ensures) (c .in-Continue-put-escape .ensures tt)) (puts-as (ap (λ z. escapes shown (decoded z)) (c .rest-rest .ensures)) h))))),
+    )
