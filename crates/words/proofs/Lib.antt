@@ -1,3 +1,4 @@
+mod Hashes
 pub mod Measured
 mod Numbers
 mod Runs

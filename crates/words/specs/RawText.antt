@@ -26,15 +26,14 @@ abbrev pub holds-quote : List ℕ → Bool
 holds-quote [] = false
 holds-quote (c ∷ cs) = (eqb c quote || eqb c backslash) || holds-quote cs
 
--- one hash more than any run of them in the text
-abbrev pub fence : List ℕ → List ℕ
-fence cs = replicate (suc (longest-hashes cs)) hash
+-- bytes in double quotes
+abbrev pub quoted : List ℕ → List ℕ
+quoted x = quote ∷ (x ++ quote ∷ [])
 
-abbrev pub raw-str : List ℕ → List ℕ
-raw-str cs = 0x72 ∷ (fence cs ++ (quote ∷ (encodes cs ++ (quote ∷ fence cs))))
+-- bytes in double quotes between n + 1 hashes on each side
+abbrev pub fenced : ℕ → List ℕ → List ℕ
+fenced n x = replicate (suc n) hash ++ (quoted x ++ replicate (suc n) hash)
 
-abbrev pub quoted-str : List ℕ → List ℕ
-quoted-str cs = quote ∷ (encodes cs ++ quote ∷ [])
-
+-- raw behind `r`, with one hash more than any run of them in the text, where it holds a quote or a backslash; else quoted
 abbrev pub unescaped-or-raw-str : List ℕ → List ℕ
-unescaped-or-raw-str cs = cond (holds-quote cs) (raw-str cs) (quoted-str cs)
+unescaped-or-raw-str cs = cond (holds-quote cs) (0x72 ∷ fenced (longest-hashes cs) (encodes cs)) (quoted (encodes cs))

@@ -2,5 +2,6 @@
 pub mod class;
 pub mod name;
 mod numeral;
+pub mod raw;
 pub mod refusal;
 pub mod text;
