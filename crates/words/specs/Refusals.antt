@@ -10,8 +10,7 @@ use Rattle.std.specs.declared.option.Option.the-variants.{Some, None}
 use Rattle.std.specs.declared.result.Result.{Result}
 use Rattle.std.specs.declared.result.Result.the-variants.{Ok, Err}
 use Rattle.chars.specs.Utf8.{utf8, decoded}
-use Rattle.words.specs.Names.{name, form}
-use Rattle.words.specs.declared.name.Form.{Form}
+use Rattle.words.specs.Names.{name}
 use Rattle.words.specs.declared.refusal.Refusal.{Refusal}
 use Rattle.words.specs.declared.refusal.Refusal.the-variants.{InvalidIdentifier, NotUtf8, TooLong, NoSpace}
 
@@ -34,8 +33,7 @@ abbrev pub unless : {A : Type 0} → Option Refusal → A → Result A Refusal
 unless None x = Ok x
 unless (Some e) x = Err e
 
-module _ (starts continues : ℕ → Bool) where
-  -- a name: refused as a text is, or else no name
-  abbrev pub name-refusal : List ℕ → Option Refusal
-  name-refusal s =
-      cond (leb (length s) longest-argument) (cond (utf8 s) (cond (name starts continues (decoded s)) None (Some InvalidIdentifier)) (Some NotUtf8)) (Some TooLong)
+-- a name: refused as a text is, or else no name
+abbrev pub name-refusal : (ℕ → Bool) → List ℕ → Option Refusal
+name-refusal continues s =
+    cond (leb (length s) longest-argument) (cond (utf8 s) (cond (name continues (decoded s)) None (Some InvalidIdentifier)) (Some NotUtf8)) (Some TooLong)
