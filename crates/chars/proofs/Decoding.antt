@@ -1,8 +1,8 @@
 -- Decoding takes the bytes of scalar values and nothing else.
 use mathlib.Core.Path.{_≡_, refl, sym, ap, subst, _∙_}
-use mathlib.Core.Bool.{Bool, true, false, cond, _&&_}
+use mathlib.Core.Bool.{Bool, true, false, cond}
 use mathlib.Core.List.{List, [], _∷_, _++_, append-assoc, append-nil}
-use mathlib.Core.Logic.{_⊎_, inl, inr, ⊎-elim}
+use mathlib.Core.Logic.{⊎-elim}
 use Prim.Native.Nat.{ℕ, zero, suc, _+_, _-_, _/_, _≤_, _<_}
 use native.Mathlib.Omega.{arith}
 use lib.ListN.{length, getD, take, drop, length-append, take-append-drop}
@@ -16,7 +16,7 @@ use Rattle.chars.specs.Utf8.{scalar, scalars, encode, encodes, low-six, one-by
 use Rattle.chars.proofs.Sequences.{one-scalar, two-scalar, three-scalar, four-scalar, encode-one, encode-two, encode-three, encode-four, one-encodes, two-encodes, three-encodes, four-encodes, spells-two, spells-three, spells-four}
 
 -- no sequence of one to four bytes stands at the front
-abbrev pub Stuck : List ℕ → Type 0
+abbrev Stuck : List ℕ → Type 0
 Stuck s =
     (0 < length s → one-byte (getD s 0 0) ≡ false)
     × (1 < length s → two-bytes (getD s 0 0) (getD s 1 0) ≡ false)
@@ -40,7 +40,7 @@ decode-after-four : (a b c d : ℕ) (s : List ℕ) → four-bytes a b c d ≡ fa
 unfolding decode
 decode-after-four a b c d s h = rw (h, decode-four)
 
-pub stuck-decode : (s : List ℕ) → 0 < length s → Stuck s → decode s ≡ None
+stuck-decode : (s : List ℕ) → 0 < length s → Stuck s → decode s ≡ None
 unfolding decode
 stuck-decode [] l h = absurd (omega arith)
 stuck-decode (a ∷ []) l h = decode-after-one a [] (h .0 (omega arith))
@@ -136,12 +136,12 @@ front-made s n m width r e q f =
     subst (Front s) (sym (e ∙ ap (λ k. cond (scalar k) (Some (k, width)) None) q ∙ cond-true (scalar m) _ _ (f .0))) f
 
 -- what stands in front of some bytes
-pub data Looked (s : List ℕ) : Type 0 where
+data Looked (s : List ℕ) : Type 0 where
   ended : s ≡ [] → Looked s
   begun : (c : ℕ) (r : List ℕ) → scalar c ≡ true → s ≡ encode c ++ r → length r < length s → Looked s
   broken : decode s ≡ None → Looked s
 
-pub look : (s : List ℕ) → Looked s
+look : (s : List ℕ) → Looked s
 look [] = ended refl
 look (a ∷ s) = one (one-byte a) refl
   where
@@ -227,7 +227,7 @@ encode-long c h = step (spelled c h)
     step (in-four a b d f n m k t e v) = omega (arith, ap length e)
 
 -- where no scalar value begins, nothing decodes
-pub front-none-decode : (s : List ℕ) → 0 < length s → Front s None → decode s ≡ None
+front-none-decode : (s : List ℕ) → 0 < length s → Front s None → decode s ≡ None
 front-none-decode s l f = step (look s)
   where
     step : Looked s → decode s ≡ None

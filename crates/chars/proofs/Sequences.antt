@@ -1,14 +1,13 @@
 -- What the sequences of one to four bytes spell, and that each scalar value is spelled by one of them.
-use mathlib.Core.Path.{_≡_, refl, sym, ap, _∙_}
-use mathlib.Core.Bool.{Bool, true, false, cond, _&&_, _||_}
-use mathlib.Core.List.{List, [], _∷_, _++_}
-use mathlib.Core.Logic.{_⊎_, inl, inr}
-use Prim.Native.Nat.{ℕ, _+_, _-_, _*_, _/_, _%_, _≤_, _<_}
+use mathlib.Core.Path.{_≡_, _∙_}
+use mathlib.Core.Bool.{true}
+use mathlib.Core.List.{[], _∷_}
+use Prim.Native.Nat.{ℕ, _+_, _-_, _*_, _/_, _≤_}
 use native.Mathlib.Omega.{arith}
-use lib.Dec.{eqb, leb, ltb}
-use Rattle.std.proofs.shelf.Tests.{leb-true, leb-false, le-leb, lt-leb, and-parts, and-from, both-ways}
+use lib.Dec.{leb}
+use Rattle.std.proofs.shelf.Tests.{leb-true, le-leb, lt-leb, and-parts}
 use Rattle.std.proofs.shelf.Ways.{tells}
-use Rattle.chars.specs.Utf8.{within, scalar, encode, low-six, tail, one-byte, two-bytes, three-bytes, four-bytes, of-two, of-three, of-four}
+use Rattle.chars.specs.Utf8.{scalar, encode, low-six, tail, one-byte, two-bytes, three-bytes, four-bytes, of-two, of-three, of-four}
 
 pub one-scalar : (a : ℕ) → one-byte a ≡ true → scalar a ≡ true
 one-scalar a h = grind (arith, tells)
@@ -23,13 +22,13 @@ pub four-scalar : (a b c d : ℕ) → four-bytes a b c d ≡ true → scalar (of
 four-scalar a b c d h = grind (arith, tells)
 
 -- two lists of given elements
-two-same : {a b a′ b′ : ℕ} → a ≡ a′ → b ≡ b′ → a ∷ b ∷ [] ≡ a′ ∷ b′ ∷ []
+pub two-same : {a b a′ b′ : ℕ} → a ≡ a′ → b ≡ b′ → a ∷ b ∷ [] ≡ a′ ∷ b′ ∷ []
 two-same p q = cc
 
-three-same : {a b c a′ b′ c′ : ℕ} → a ≡ a′ → b ≡ b′ → c ≡ c′ → a ∷ b ∷ c ∷ [] ≡ a′ ∷ b′ ∷ c′ ∷ []
+pub three-same : {a b c a′ b′ c′ : ℕ} → a ≡ a′ → b ≡ b′ → c ≡ c′ → a ∷ b ∷ c ∷ [] ≡ a′ ∷ b′ ∷ c′ ∷ []
 three-same p q r = cc
 
-four-same : {a b c d a′ b′ c′ d′ : ℕ} → a ≡ a′ → b ≡ b′ → c ≡ c′ → d ≡ d′ → a ∷ b ∷ c ∷ d ∷ [] ≡ a′ ∷ b′ ∷ c′ ∷ d′ ∷ []
+pub four-same : {a b c d a′ b′ c′ d′ : ℕ} → a ≡ a′ → b ≡ b′ → c ≡ c′ → d ≡ d′ → a ∷ b ∷ c ∷ d ∷ [] ≡ a′ ∷ b′ ∷ c′ ∷ d′ ∷ []
 four-same p q r s = cc
 
 -- by the range of its number, which bytes a scalar value has

@@ -5,7 +5,7 @@ use mathlib.Core.List.{List, [], _∷_, _++_}
 use mathlib.Core.Path.{_≡_}
 use Prim.Native.Nat.{ℕ, _+_, _-_, _*_, _/_, _%_, _≤_, _<_}
 use lib.ListN.{length, take, drop}
-use lib.Dec.{eqb, leb, ltb}
+use lib.Dec.{eqb, leb}
 use Rattle.std.specs.declared.option.Option.{Option}
 use Rattle.std.specs.declared.option.Option.the-variants.{Some, None}
 use Rattle.std.specs.Options.{mapped, isSome, valueOr}
@@ -49,11 +49,19 @@ two-bytes a b = within 0xC2 0xDF a && tail b
 
 abbrev pub three-bytes : ℕ → ℕ → ℕ → Bool
 three-bytes a b c =
-    ((eqb a 0xE0 && within 0xA0 0xBF b) || (within 0xE1 0xEC a && tail b) || (eqb a 0xED && within 0x80 0x9F b) || (within 0xEE 0xEF a && tail b)) && tail c
+    ((eqb a 0xE0 && within 0xA0 0xBF b)
+    || (within 0xE1 0xEC a && tail b)
+    || (eqb a 0xED && within 0x80 0x9F b)
+    || (within 0xEE 0xEF a && tail b))
+    && tail c
 
 abbrev pub four-bytes : ℕ → ℕ → ℕ → ℕ → Bool
 four-bytes a b c d =
-    ((eqb a 0xF0 && within 0x90 0xBF b) || (within 0xF1 0xF3 a && tail b) || (eqb a 0xF4 && within 0x80 0x8F b)) && tail c && tail d
+    ((eqb a 0xF0 && within 0x90 0xBF b)
+    || (within 0xF1 0xF3 a && tail b)
+    || (eqb a 0xF4 && within 0x80 0x8F b))
+    && tail c
+    && tail d
 
 -- the numbers that these sequences spell
 abbrev pub of-two : ℕ → ℕ → ℕ

@@ -1,8 +1,9 @@
-// A scalar value in one to four bytes.
+//! The UTF-8 bytes of one character.
 ghost use mathlib.Core.Path.{_≡_};
 ghost use Rattle.chars.specs.Encoding.{bytes-of};
 ghost use Rattle.chars.specs.Utf8.{encode, low-six};
 
+/// The one to four bytes of a character, held without a heap.
 #[derive(Clone, Copy)]
 pub enum Encoded {
     One([u8; 1]),
@@ -12,6 +13,7 @@ pub enum Encoded {
 }
 
 impl Encoded {
+    /// The bytes that UTF-8 (RFC 3629) writes the character with.
     pub fn new(c: char) -> Encoded
         ensures { λ r. ⌜ bytes-of r ≡ encode c ⌝ }
     {
@@ -32,6 +34,7 @@ impl Encoded {
         }
     }
 
+    /// These bytes, to read.
     pub fn as_bytes(&self) -> &[u8]
         ensures { λ r. ⌜ now r ≡ bytes-of (now (self .entry)) ⌝ }
     {

@@ -1,4 +1,4 @@
-// Characters: UTF-8, the blanks of RON, and tables of the characters that names and texts are made of.
+//! Characters: UTF-8, the blanks of RON, and tables of the characters that names and texts are made of.
 pub mod blank;
 pub mod encoding;
 pub mod table;

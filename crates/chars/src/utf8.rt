@@ -1,4 +1,4 @@
-// Strict UTF-8, as RFC 3629 has it: a cursor that hands out the scalar values of bytes.
+//! Strict UTF-8, as RFC 3629 has it: a cursor that hands out the scalar values of bytes.
 ghost use mathlib.Core.Bool.{cond};
 ghost use mathlib.Core.Path.{_≡_};
 ghost use lib.ListN.{length};
@@ -6,23 +6,28 @@ ghost use Rattle.std.specs.declared.option.Option.the-variants.{Some, None};
 ghost use Rattle.chars.specs.Cursor.{left, position, Steps};
 ghost use Rattle.chars.specs.Utf8.{scalar, tail, two-bytes, three-bytes, four-bytes, of-two, of-three, of-four, Front, Malformed-at, Decoding-is-exact};
 
-// What a cursor finds at its place.
+/// What a cursor finds at its place.
 #[derive(Clone, Copy)]
 pub enum Step {
+    /// The next scalar value.
     Scalar(char),
-    // No scalar value begins at this byte.
+    /// No scalar value begins here, at this many bytes from the first.
     Malformed(usize),
+    /// All bytes have been read.
     End,
 }
 
-// A cursor over bytes: what is left of them, and how many there were.
+/// A cursor over bytes, which hands out the scalar values that they spell.
 #[derive(Clone, Copy)]
 pub struct Scalars<'a> {
+    // What is left of the bytes.
     rest: &'a [u8],
+    // How many there were.
     len: usize,
 }
 
 impl<'a> Scalars<'a> {
+    /// A cursor at the first of the bytes.
     pub fn new(bytes: &'a [u8]) -> Scalars<'a>
         ensures rest { λ r. ⌜ left r ≡ now (bytes .entry) ⌝ }
         ensures len { λ r. ⌜ r .len ≡ length (now (bytes .entry)) ⌝ }
@@ -33,20 +38,21 @@ impl<'a> Scalars<'a> {
         }
     }
 
-    // How many bytes have been read.
+    /// How many bytes have been read.
     pub fn position(&self) -> usize
         ensures { λ r. ⌜ r ≡ position (now (self .entry)) ⌝ }
     {
         self.len.saturating_sub(self.rest.len())
     }
 
-    // The bytes that are still to be read.
+    /// The bytes that are still to be read.
     pub fn rest(&self) -> &'a [u8]
         ensures { λ r. ⌜ now r ≡ left (now (self .entry)) ⌝ }
     {
         self.rest
     }
 
+    /// Reads the next scalar value and passes over its bytes. At malformed bytes and at the end the cursor stays.
     pub fn step(&mut self) -> Step
         ensures { λ r. ⌜ Steps (now (self .entry)) r (now (self .exit)) ⌝ }
     {
@@ -61,7 +67,7 @@ impl<'a> Scalars<'a> {
     }
 }
 
-// Where bytes are not UTF-8: the first byte at which no scalar value begins.
+/// Where bytes are not UTF-8: the place of the first byte at which no scalar value begins. `None` where they are UTF-8.
 pub fn malformed_at(bytes: &[u8]) -> Option<usize>
     ensures { λ r. ⌜ Malformed-at (now (bytes .entry)) r ⌝ }
 {
@@ -75,6 +81,8 @@ pub fn malformed_at(bytes: &[u8]) -> Option<usize>
     }
 }
 
+/// A theorem: what decodes is scalar values whose bytes these are, the bytes of scalar values decode to them,
+/// and so no bytes spell two lists of scalar values. The answer says nothing; the contract is the theorem.
 pub fn decoding_is_exact() -> bool
     ensures { λ _. ⌜ Decoding-is-exact ⌝ }
 {

@@ -1,6 +1,5 @@
-use mathlib.Core.Path.{ap, _∙_}
-use Prim.Native.Nat.{_-_}
-use lib.ListN.{length}
+use mathlib.Core.Path.{_∙_}
+use native.Mathlib.Omega.{arith}
 use Rattle.chars.specs.Cursor.{left}
 use Rattle.chars.proofs.Decoding.{shorter, read-more, read-all, read-broken}
 use Rattle.chars.proofs.utf8.malformed_at.Needs as need
@@ -16,8 +15,7 @@ loop-at-again c =
 pub returns-in-Malformed : need.returns-in-Malformed
 returns-in-Malformed c =
     let s = c .in-Malformed .ensures tt in
-    let rest = left (c .loop-at .cursor) in
-    read-broken (c .args .bytes .now) rest _ (s .0 ∙ ap (λ n. n - length rest) (c .loop-at .inv .0)) (s .1) (s .2) (c .loop-at .inv .1)
+    read-broken (c .args .bytes .now) (left (c .loop-at .cursor)) _ (omega (arith, s .0, c .loop-at .inv .0)) (s .1) (s .2) (c .loop-at .inv .1)
 
 pub returns-in-End : need.returns-in-End
 returns-in-End c = read-all (c .args .bytes .now) _ (c .in-End .ensures tt .0) (c .loop-at .inv .1)
