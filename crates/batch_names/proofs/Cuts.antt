@@ -8,6 +8,7 @@ use lib.Dec.{eqb}
 use lib.ListN.{length, take, drop, getD, length-append, length-drop}
 use Rattle.std.proofs.shelf.Lists.{take-more, drop-more, take-all, take-rest, nil-from-length}
 use Rattle.std.proofs.shelf.Tests.{and-parts, and-from, ne-eqb, not-from-false, false≢true}
+use Rattle.std.proofs.shelf.Ways.{tells}
 use Rattle.batch_names.specs.Lines.{LF, CR, one-line, ends-in-CR, Cut, at-LF, at-CR-LF, at-end}
 
 one-line-join : (x y : List ℕ) → one-line x ≡ true → one-line y ≡ true → one-line (x ++ y) ≡ true
@@ -79,3 +80,6 @@ pub cut-shorter : (s line rest : List ℕ) → Cut s line rest → 0 < length s 
 cut-shorter s line rest (at-LF h k e) l = omega (arith, ap length e, length-append line (LF ∷ rest))
 cut-shorter s line rest (at-CR-LF h e) l = omega (arith, ap length e, length-append line (CR ∷ LF ∷ rest))
 cut-shorter s line rest (at-end h e n) l = omega (arith, ap length n)
+
+pub not-empty : (s : List ℕ) → false ≡ eqb (length s) 0 → 0 < length s
+not-empty s h = grind (arith, tells)

@@ -3,8 +3,9 @@
 use mathlib.Core.Bool.{Bool, true, false, not, _&&_}
 use mathlib.Core.List.{List, [], _∷_, _++_}
 use mathlib.Core.Path.{_≡_}
-use Prim.Native.Nat.{ℕ}
+use Prim.Native.Nat.{ℕ, _<_}
 use lib.Dec.{eqb}
+use lib.ListN.{length}
 
 abbrev pub LF : ℕ
 LF = 0x0A
@@ -26,3 +27,8 @@ pub data Cut (s line rest : List ℕ) : Type 0 where
   at-LF : one-line line ≡ true → ends-in-CR line ≡ false → s ≡ line ++ LF ∷ rest → Cut s line rest
   at-CR-LF : one-line line ≡ true → s ≡ line ++ CR ∷ LF ∷ rest → Cut s line rest
   at-end : one-line line ≡ true → s ≡ line → rest ≡ [] → Cut s line rest
+
+-- the lines that were read of some bytes, the last one first, and what is left
+pub data Lines-read (s : List ℕ) : List (List ℕ) → List ℕ → Type 0 where
+  no-line : Lines-read s [] s
+  next-line : {lines : List (List ℕ)} {left line rest : List ℕ} → Lines-read s lines left → 0 < length left → Cut left line rest → Lines-read s (line ∷ lines) rest

@@ -1,8 +1,11 @@
 //! The forms of a batch name, as RON text.
 ghost use Prim.Native.Nat.{_^_, min};
 ghost use lib.ListN.{length};
-ghost use Rattle.batch_names.specs.Forms.{forms, Shown};
-ghost use Rattle.words.specs.Refusals.{text-refusal};
+ghost use Rattle.batch_names.specs.Forms.{line-unless, forms, Shown};
+ghost use Rattle.chars.specs.Utf8.{decoded};
+ghost use Rattle.std.specs.declared.option.Option.the-variants.{None};
+ghost use Rattle.words.specs.Names.{identifier};
+ghost use Rattle.words.specs.Refusals.{text-refusal, name-refusal};
 ghost use Rattle.words.specs.Whole.{Whole, refused-or-short};
 ghost use Rattle.words.specs.Writes.{Writes};
 use chars::table::CharTable;
@@ -14,17 +17,38 @@ use output::buffer::BufferSink;
 use output::buffer::text;
 use output::gauge::Gauge;
 use output::gauge::GaugeOutput;
+use words::name::identifier_form;
+use words::name::write_identifier;
+use words::raw::serialize_unescaped_or_raw_str;
 use words::refusal::FullRefusal;
 use words::refusal::Refusal;
 use words::text::serialize_escaped_str;
 
+// A name on a line of its own, or nothing where it is no name.
+fn put_name_line<O: Output, T: CharTable>(
+    out: &mut O,
+    table: &T,
+    name: &[u8],
+) -> Result<(), Refusal>
+    ensures { λ r. ⌜ Writes (O·Output .room) (O·Output .took) None (now (out .entry)) (line-unless (name-refusal (T·CharTable .continues (now (table .entry))) (now (name .entry))) (identifier (T·CharTable .starts (now (table .entry))) (T·CharTable .continues (now (table .entry))) (decoded (now (name .entry))))) r (now (out .exit)) ⌝ }
+{
+    if identifier_form(table, name).is_err() {
+        return Ok(());
+    }
+    write_identifier(out, table, name)?;
+    out.put(b"\n")?;
+    Ok(())
+}
+
 // The forms of a name, a line each.
 fn put_forms<O: Output, T: CharTable>(out: &mut O, table: &T, name: &[u8]) -> Result<(), Refusal>
-    ensures { λ r. ⌜ Writes (O·Output .room) (O·Output .took) (text-refusal (now (name .entry))) (now (out .entry)) (forms (T·CharTable .shown (now (table .entry))) (now (name .entry))) r (now (out .exit)) ⌝ }
+    ensures { λ r. ⌜ Writes (O·Output .room) (O·Output .took) (text-refusal (now (name .entry))) (now (out .entry)) (forms (T·CharTable .starts (now (table .entry))) (T·CharTable .continues (now (table .entry))) (T·CharTable .shown (now (table .entry))) (now (name .entry))) r (now (out .exit)) ⌝ }
 {
     serialize_escaped_str(out, table, name)?;
     out.put(b"\n")?;
-    Ok(())
+    serialize_unescaped_or_raw_str(out, name)?;
+    out.put(b"\n")?;
+    put_name_line(out, table, name)
 }
 
 /// The forms of a name in a sink: all of them or, refused, nothing.
@@ -33,7 +57,7 @@ pub fn write_forms<S: Sink, T: CharTable>(
     table: &T,
     name: &[u8],
 ) -> Result<(), Refusal>
-    ensures { λ r. ⌜ Whole (S·Sink .text) (S·Sink .space) (S·Sink .keeps) (text-refusal (now (name .entry))) (now (sink .entry)) (forms (T·CharTable .shown (now (table .entry))) (now (name .entry))) r (now (sink .exit)) ⌝ }
+    ensures { λ r. ⌜ Whole (S·Sink .text) (S·Sink .space) (S·Sink .keeps) (text-refusal (now (name .entry))) (now (sink .entry)) (forms (T·CharTable .starts (now (table .entry))) (T·CharTable .continues (now (table .entry))) (T·CharTable .shown (now (table .entry))) (now (name .entry))) r (now (sink .exit)) ⌝ }
 {
     let mut gauge = Gauge::new(sink.space());
     put_forms(&mut gauge, table, name)?;
@@ -46,7 +70,7 @@ pub fn shown_forms<'m, T: CharTable>(
     table: &T,
     name: &[u8],
 ) -> Result<&'m [u8], Refusal>
-    ensures { λ r. ⌜ Shown (refused-or-short (text-refusal (now (name .entry))) (forms (T·CharTable .shown (now (table .entry))) (now (name .entry))) (min (length (now (memory .entry))) (2 ^ 30))) (forms (T·CharTable .shown (now (table .entry))) (now (name .entry))) r ⌝ }
+    ensures { λ r. ⌜ Shown (refused-or-short (text-refusal (now (name .entry))) (forms (T·CharTable .starts (now (table .entry))) (T·CharTable .continues (now (table .entry))) (T·CharTable .shown (now (table .entry))) (now (name .entry))) (min (length (now (memory .entry))) (2 ^ 30))) (forms (T·CharTable .starts (now (table .entry))) (T·CharTable .continues (now (table .entry))) (T·CharTable .shown (now (table .entry))) (now (name .entry))) r ⌝ }
 {
     let mut buffer = Buffer::new(memory);
     write_forms(&mut buffer, table, name)?;

@@ -33,7 +33,11 @@ pub fn validate_identifier<T: CharTable>(table: &T, name: &[u8]) -> Result<(), R
     ensures { λ r. ⌜ r ≡ unless (name-refusal (T·CharTable .continues (now (table .entry))) (now (name .entry))) tt ⌝ }
 {
     check_text(name)?;
-    if is_name(table, name) { Ok(()) } else { Err(Refusal::InvalidIdentifier) }
+    if is_name(table, name) {
+        Ok(())
+    } else {
+        Err(Refusal::InvalidIdentifier)
+    }
 }
 
 fn is_name<T: CharTable>(table: &T, text: &[u8]) -> bool
@@ -113,7 +117,11 @@ pub fn identifier_form<T: CharTable>(table: &T, name: &[u8]) -> Result<Form, Ref
     ensures { λ r. ⌜ r ≡ unless (name-refusal (T·CharTable .continues (now (table .entry))) (now (name .entry))) (form (T·CharTable .starts (now (table .entry))) (T·CharTable .continues (now (table .entry))) (decoded (now (name .entry)))) ⌝ }
 {
     validate_identifier(table, name)?;
-    if is_bare(table, name) { Ok(Form::Bare) } else { Ok(Form::Raw) }
+    if is_bare(table, name) {
+        Ok(Form::Bare)
+    } else {
+        Ok(Form::Raw)
+    }
 }
 
 fn put_formed<O: Output>(out: &mut O, form: Form, name: &[u8]) -> Result<(), Full>
@@ -133,7 +141,11 @@ fn put_behind<O: Output>(out: &mut O, front: &[u8], back: &[u8]) -> Result<(), F
 }
 
 /// A name, bare or behind `r#`.
-pub fn write_identifier<O: Output, T: CharTable>(out: &mut O, table: &T, name: &[u8]) -> Result<(), Refusal>
+pub fn write_identifier<O: Output, T: CharTable>(
+    out: &mut O,
+    table: &T,
+    name: &[u8],
+) -> Result<(), Refusal>
     ensures { λ r. ⌜ Writes (O·Output .room) (O·Output .took) (name-refusal (T·CharTable .continues (now (table .entry))) (now (name .entry))) (now (out .entry)) (identifier (T·CharTable .starts (now (table .entry))) (T·CharTable .continues (now (table .entry))) (decoded (now (name .entry)))) r (now (out .exit)) ⌝ }
 {
     let form = identifier_form(table, name)?;

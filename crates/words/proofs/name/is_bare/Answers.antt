@@ -28,7 +28,7 @@ returns-else-not-is-text-of g c =
     let s = c .in-Scalar .ensures tt in
     ap not (c .is-reserved .ensures)
     ∙ bare-word _ _ (c .args .name .now) _ _ (c .pre) (s .0) (sym (c .new-cursor .ensures .rest) ∙ s .1) (c .if-not-is-first .ensures tt)
-      (c .if-not-is-text-of .ensures tt ∙ ap (text-of (g .T·CharTable .continues (c .args .table .now))) (c .rest .ensures))
+    (c .if-not-is-text-of .ensures tt ∙ ap (text-of (g .T·CharTable .continues (c .args .table .now))) (c .rest .ensures))
 
 pub returns-in-End : need.returns-in-End
 returns-in-End g c = sym (bare-none _ _ (c .args .name .now) (sym (c .new-cursor .ensures .rest) ∙ c .in-End .ensures tt .0))

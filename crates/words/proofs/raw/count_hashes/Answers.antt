@@ -13,14 +13,18 @@ loop-b-again c =
     let i = c .loop-b .inv in
     let s = c .args .text .now in
     elim (c .if-b-eq35 .came) [
-      | then-b-eq35 w ↦
-        (omega (arith, w .run-is), omega arith,
-         subst₂ (Counted s (c .loop-b .b-index + 1)) (sym (w .run-is)) (sym (c .max-longest .ensures ∙ ap (max (c .loop-b .longest)) (w .run-is)))
-         (counted-hash s (c .loop-b .b-index) (c .loop-b .run) (c .loop-b .longest) (c .loop-b-test .taken) (w .if-b-eq35 .taken) (i .2)))
-      | else-b-eq35 w ↦
-        (omega (arith, w .run-is), omega arith,
-         subst₂ (Counted s (c .loop-b .b-index + 1)) (sym (w .run-is)) (sym (c .max-longest .ensures ∙ ap (max (c .loop-b .longest)) (w .run-is)))
-         (counted-other s (c .loop-b .b-index) (c .loop-b .run) (c .loop-b .longest) (c .loop-b-test .taken) (i .1) (w .if-b-eq35 .left) (i .2)))
+      | then-b-eq35 w ↦ (
+        omega (arith, w .run-is),
+        omega arith,
+        subst₂ (Counted s (c .loop-b .b-index + 1)) (sym (w .run-is)) (sym (c .max-longest .ensures ∙ ap (max (c .loop-b .longest)) (w .run-is)))
+            (counted-hash s (c .loop-b .b-index) (c .loop-b .run) (c .loop-b .longest) (c .loop-b-test .taken) (w .if-b-eq35 .taken) (i .2)),
+      )
+      | else-b-eq35 w ↦ (
+        omega (arith, w .run-is),
+        omega arith,
+        subst₂ (Counted s (c .loop-b .b-index + 1)) (sym (w .run-is)) (sym (c .max-longest .ensures ∙ ap (max (c .loop-b .longest)) (w .run-is)))
+            (counted-other s (c .loop-b .b-index) (c .loop-b .run) (c .loop-b .longest) (c .loop-b-test .taken) (i .1) (w .if-b-eq35 .left) (i .2)),
+      )
     ]
 
 pub returns : need.returns
