@@ -1,31 +1,31 @@
 -- Hashes and quotes in the bytes of a text are those in its characters.
-use mathlib.Core.Bool.{Bool, true, false, cond, _||_}
-use mathlib.Core.List.{List, [], _∷_, _++_, append-assoc}
-use mathlib.Core.Logic.{_⊎_, inl, inr, ⊎-elim}
+use mathlib.Core.Bool.{true, false, cond, _||_}
+use mathlib.Core.List.{List, [], _∷_, _++_}
+use mathlib.Core.Logic.{⊎-elim}
 use mathlib.Core.Path.{_≡_, refl, sym, ap, _∙_}
 use Prim.Native.Nat.{ℕ, suc, _+_, _-_, _≤_, _<_, max}
 use native.Mathlib.Omega.{arith}
 use lib.Dec.{eqb}
 use lib.ListN.{length, drop, getD, replicate}
-use Rattle.std.proofs.shelf.Lists.{replicate-more, drop-more, drop-all}
+use Rattle.std.proofs.shelf.Lists.{drop-more, drop-all}
 use Rattle.std.proofs.shelf.Tests.{ne-eqb, eq-eqb, and-parts, or-left}
-use Rattle.chars.specs.Utf8.{scalar, scalars, encode, encodes, utf8, decoded}
+use Rattle.chars.specs.Utf8.{scalar, scalars, encodes, utf8, decoded}
 use Rattle.chars.proofs.Decoding.{encodes-decoded}
 use Rattle.chars.proofs.HighBytes.{High, encode-parts}
 use Rattle.words.specs.Escapes.{quote, backslash}
 use Rattle.words.specs.RawText.{hash, leading-hashes, longest-hashes, holds-quote, quoted, fenced, unescaped-or-raw-str}
 
 -- a byte that is no hash, and one that is
-pub leading-other : (c : ℕ) (s : List ℕ) → (c ≡ hash → ⊥) → leading-hashes (c ∷ s) ≡ 0
+leading-other : (c : ℕ) (s : List ℕ) → (c ≡ hash → ⊥) → leading-hashes (c ∷ s) ≡ 0
 leading-other c s n = rw (ne-eqb c hash n)
 
-pub longest-other : (c : ℕ) (s : List ℕ) → (c ≡ hash → ⊥) → longest-hashes (c ∷ s) ≡ longest-hashes s
+longest-other : (c : ℕ) (s : List ℕ) → (c ≡ hash → ⊥) → longest-hashes (c ∷ s) ≡ longest-hashes s
 longest-other c s n = let e = leading-other c s n in omega arith
 
-pub leading-hash : (c : ℕ) (s : List ℕ) → c ≡ hash → leading-hashes (c ∷ s) ≡ suc (leading-hashes s)
+leading-hash : (c : ℕ) (s : List ℕ) → c ≡ hash → leading-hashes (c ∷ s) ≡ suc (leading-hashes s)
 leading-hash c s e = rw (eq-eqb c hash e)
 
-pub leading-longest : (s : List ℕ) → leading-hashes s ≤ longest-hashes s
+leading-longest : (s : List ℕ) → leading-hashes s ≤ longest-hashes s
 leading-longest [] = omega arith
 leading-longest (c ∷ s) = omega arith
 

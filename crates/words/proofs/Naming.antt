@@ -1,5 +1,5 @@
 -- Names, by their bytes.
-use mathlib.Core.Bool.{Bool, true, false, cond, not, _&&_}
+use mathlib.Core.Bool.{Bool, true, false, not, _&&_}
 use mathlib.Core.List.{List, [], _∷_, _++_}
 use mathlib.Core.Path.{_≡_, refl, sym, ap, ap₂, _∙_}
 use Prim.Native.Nat.{ℕ, _<_}
@@ -8,13 +8,13 @@ use lib.ListN.{length}
 use Rattle.std.specs.Options.{valueOr}
 use Rattle.std.specs.declared.option.Option.{Option}
 use Rattle.std.specs.declared.option.Option.the-variants.{Some, None}
-use Rattle.std.specs.declared.result.Result.the-variants.{Ok, Err}
+use Rattle.std.specs.declared.result.Result.the-variants.{Ok}
 use Rattle.std.proofs.shelf.Lists.{nil-from-length}
 use Rattle.chars.specs.Utf8.{scalar, encode, encodes, utf8, decoded}
 use Rattle.chars.proofs.Decoding.{encodes-decoded, utf8-past, decoded-past, decode-nil}
 use Rattle.words.specs.Classes.{all, raw-char, text-of}
 use Rattle.words.specs.Names.{reserved, name, first-char, bare, form, formed, identifier}
-use Rattle.words.specs.Refusals.{unless, name-refusal}
+use Rattle.words.specs.Refusals.{refused-unless, first-refusal, text-refusal, name-refusal, unless}
 use Rattle.words.specs.declared.name.Form.{Form}
 use Rattle.words.specs.declared.refusal.Refusal.{Refusal}
 use Rattle.words.proofs.Reserved.{reserved-decoded}
@@ -56,14 +56,18 @@ accepted : {A : Type 0} (o : Option Refusal) (x y : A) → Ok x ≡ unless o y �
 accepted None x y e = (refl, (cc))
 accepted (Some f) x y e = let z : _≡_ {A = ℕ} 0 1 = cc in absurd (omega arith)
 
-second-test : (a b c : Bool) (x y z : Refusal) → cond a (cond b (cond c None (Some x)) (Some y)) (Some z) ≡ None → b ≡ true
-second-test a true c x y z e = refl
-second-test true false c x y z e = let w : _≡_ {A = ℕ} 0 1 = cc in absurd (omega arith)
-second-test false false c x y z e = let w : _≡_ {A = ℕ} 0 1 = cc in absurd (omega arith)
+-- what tests that refuse nothing tell
+neither : (o p : Option Refusal) → first-refusal o p ≡ None → (o ≡ None) × (p ≡ None)
+neither None p e = (refl, e)
+neither (Some f) p e = let z : _≡_ {A = ℕ} 0 1 = cc in absurd (omega arith)
+
+holds : (t : Bool) (e : Refusal) → refused-unless t e ≡ None → t ≡ true
+holds true e h = refl
+holds false e h = let z : _≡_ {A = ℕ} 0 1 = cc in absurd (omega arith)
 
 pub written-name : (starts continues : ℕ → Bool) (s : List ℕ) (f : Form) → Ok f ≡ unless (name-refusal continues s) (form starts continues (decoded s))
     → (name-refusal continues s ≡ None) × (formed f s ≡ identifier starts continues (decoded s))
 written-name starts continues s f e =
     let a = accepted (name-refusal continues s) f (form starts continues (decoded s)) e in
-    let u = second-test _ (utf8 s) _ _ _ _ (a .0) in
+    let u = holds (utf8 s) _ (neither _ _ (neither (text-refusal s) _ (a .0) .0) .1) in
     (a .0, ap (λ g. formed g s) (a .1) ∙ ap (formed (form starts continues (decoded s))) (sym (encodes-decoded s u .1)))

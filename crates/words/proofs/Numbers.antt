@@ -1,12 +1,10 @@
 -- The digits of a number, from the last to the first.
-use mathlib.Core.Bool.{cond}
-use mathlib.Core.List.{List, [], _∷_, _++_, map, map-append}
+use mathlib.Core.List.{[], _∷_, _++_, map, map-append}
 use mathlib.Core.Logic.{⊎-elim}
 use mathlib.Core.Path.{_≡_, refl, sym, ap, _∙_}
 use Prim.Native.Nat.{ℕ, zero, suc, _/_, _%_, _≤_, _<_}
 use native.Mathlib.Nat.{div-lt-self, div-eq-of-lt, mod-eq-of-lt, div-lt-iff-lt-mul, one-mul}
 use native.Mathlib.Omega.{arith}
-use lib.Dec.{eqb}
 use Rattle.std.specs.Text.{digitChar}
 use Rattle.std.specs.shelf.Digits.{digitsOf}
 use Rattle.std.proofs.shelf.Digits.{digitsOf-step}

@@ -15,7 +15,8 @@ use Rattle.chars.specs.Utf8.{scalar, scalars, encode, encodes, utf8, decoded}
 use Rattle.chars.proofs.Decoding.{encodes-decoded}
 use Rattle.chars.proofs.HighBytes.{High, encode-parts}
 use Rattle.words.specs.Classes.{all}
-use Rattle.words.specs.Names.{agrees, same, one-of, reserved, reserved-words, reserved-from}
+use Rattle.words.specs.Inner.{reserved-from}
+use Rattle.words.specs.Names.{agrees, same, one-of, reserved, reserved-words}
 
 agrees-behind : (i : ℕ) (w cs : List ℕ) (c : ℕ) → agrees (suc i) w (c ∷ cs) ≡ agrees i w cs
 agrees-behind i [] cs c = refl

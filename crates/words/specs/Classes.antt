@@ -1,4 +1,4 @@
--- Classes of characters: which stand for themselves in an escaped text, which go on in a name, and which a name behind `r#` has.
+-- Classes of characters: those that stand for themselves in an escaped text, those that go on in a bare name, and those of a name behind `r#`.
 -- `shown` and `continues` are the table's sets. Assumes nothing.
 use mathlib.Core.Bool.{Bool, true, not, _&&_, _||_}
 use mathlib.Core.List.{List, [], _∷_}
@@ -17,7 +17,7 @@ all p (c ∷ cs) = p c && all p cs
 abbrev pub quoting : ℕ → Bool
 quoting c = eqb c 0x22 || eqb c 0x27 || eqb c 0x5C
 
--- what an escaped text has as it is
+-- what an escaped text has as it is; no table shows U+0000, tab, LF or CR, which have short escapes too
 abbrev pub plain-char : (ℕ → Bool) → ℕ → Bool
 plain-char shown c = shown c && not (quoting c)
 

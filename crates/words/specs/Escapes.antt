@@ -1,18 +1,14 @@
--- Escaped text: a RON string in double quotes, in which every character that is not shown has an escape.
+-- Escaped text: a RON string in double quotes, in which each quote, each backslash and each character that is not shown has an escape.
 -- A character is its number; `shown` is the table's set of the characters that stand for themselves. Assumes nothing.
-use mathlib.Core.Bool.{Bool, true, cond}
+use mathlib.Core.Bool.{Bool, cond}
 use mathlib.Core.List.{List, [], _∷_, _++_}
-use mathlib.Core.Path.{_≡_}
 use Prim.Native.Nat.{ℕ}
 use lib.Chars.{codes}
 use lib.Dec.{eqb}
-use lib.ListN.{take, drop}
 use Rattle.std.specs.Joined.{joined}
-use Rattle.chars.specs.Utf8.{encode, utf8, decoded}
+use Rattle.chars.specs.Utf8.{encode}
 use Rattle.words.specs.Classes.{quoting}
 use Rattle.words.specs.Numerals.{numeral}
-use Rattle.words.specs.declared.text.Escape.{Escape}
-use Rattle.words.specs.declared.text.Escape.the-variants.{Plain, Short, Code}
 
 abbrev pub backslash : ℕ
 backslash = 0x5C
@@ -40,14 +36,3 @@ escapes shown cs = joined (escape shown) cs
 
 abbrev pub escaped-str : (ℕ → Bool) → List ℕ → List ℕ
 escaped-str shown cs = quote ∷ (escapes shown cs ++ quote ∷ [])
-
--- how the code's choice of an escape is written
-abbrev pub written : Escape → ℕ → List ℕ
-written Plain c = encode c
-written (Short b) c = backslash ∷ b ∷ []
-written Code c = code c
-
--- the first n bytes of a text are escaped by standing as they are
-abbrev pub Plain-front : (ℕ → Bool) → List ℕ → ℕ → Type 0
-Plain-front shown s n =
-    utf8 s ≡ true → (utf8 (drop n s) ≡ true) × (escapes shown (decoded s) ≡ take n s ++ escapes shown (decoded (drop n s)))

@@ -1,5 +1,6 @@
 pub mod Classes
 pub mod Escapes
+pub mod Inner
 pub mod Names
 pub mod Numerals
 pub mod RawText

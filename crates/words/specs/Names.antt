@@ -34,21 +34,6 @@ reserved-words =
 abbrev pub reserved : List ℕ → Bool
 reserved cs = one-of reserved-words cs
 
-abbrev pub ends-none-or-nan : List ℕ → Bool
-ends-none-or-nan cs = one-of (codes "one" ∷ codes "aN" ∷ codes "aNf32" ∷ codes "aNf64" ∷ []) cs
-
-abbrev pub ends-inf : List ℕ → Bool
-ends-inf cs = one-of (codes "nf" ∷ codes "nff32" ∷ codes "nff64" ∷ []) cs
-
--- the same words, told by their first character: what follows it in a reserved word
-abbrev pub reserved-from : ℕ → List ℕ → Bool
-reserved-from c cs =
-    cond (eqb c 0x74) (same cs (codes "rue"))
-    (cond (eqb c 0x66) (same cs (codes "alse"))
-    (cond (eqb c 0x53) (same cs (codes "ome"))
-    (cond (eqb c 0x4E) (ends-none-or-nan cs)
-    (cond (eqb c 0x69) (ends-inf cs) false))))
-
 -- a name is not empty, and of raw characters
 abbrev pub name : (ℕ → Bool) → List ℕ → Bool
 name continues [] = false

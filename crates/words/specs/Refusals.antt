@@ -24,16 +24,24 @@ number NoSpace = 19
 abbrev pub longest-argument : ℕ
 longest-argument = 65535
 
+-- one test: refused where it does not hold
+abbrev pub refused-unless : Bool → Refusal → Option Refusal
+refused-unless holds e = cond holds None (Some e)
+
+-- one test after another: the first that refuses
+abbrev pub first-refusal : Option Refusal → Option Refusal → Option Refusal
+first-refusal (Some e) o = Some e
+first-refusal None o = o
+
 -- a text: too long, or else not UTF-8
 abbrev pub text-refusal : List ℕ → Option Refusal
-text-refusal s = cond (leb (length s) longest-argument) (cond (utf8 s) None (Some NotUtf8)) (Some TooLong)
+text-refusal s = first-refusal (refused-unless (leb (length s) longest-argument) TooLong) (refused-unless (utf8 s) NotUtf8)
+
+-- a name: refused as a text is, or else no name
+abbrev pub name-refusal : (ℕ → Bool) → List ℕ → Option Refusal
+name-refusal continues s = first-refusal (text-refusal s) (refused-unless (name continues (decoded s)) InvalidIdentifier)
 
 -- the answer of a test: the value, unless it is refused
 abbrev pub unless : {A : Type 0} → Option Refusal → A → Result A Refusal
 unless None x = Ok x
 unless (Some e) x = Err e
-
--- a name: refused as a text is, or else no name
-abbrev pub name-refusal : (ℕ → Bool) → List ℕ → Option Refusal
-name-refusal continues s =
-    cond (leb (length s) longest-argument) (cond (utf8 s) (cond (name continues (decoded s)) None (Some InvalidIdentifier)) (Some NotUtf8)) (Some TooLong)

@@ -7,17 +7,15 @@ use Prim.Native.Nat.{ℕ, _-_}
 use lib.Dec.{leb}
 use lib.ListN.{length}
 use Rattle.std.specs.declared.option.Option.{Option}
-use Rattle.std.specs.declared.option.Option.the-variants.{Some, None}
 use Rattle.std.specs.declared.result.Result.{Result}
 use Rattle.std.specs.Results.{isOk}
-use Rattle.words.specs.Refusals.{unless}
+use Rattle.words.specs.Refusals.{first-refusal, refused-unless, unless}
 use Rattle.words.specs.declared.refusal.Refusal.{Refusal}
 use Rattle.words.specs.declared.refusal.Refusal.the-variants.{NoSpace}
 
 -- refused for another reason, or else since the bytes exceed the space
 abbrev pub refused-or-short : Option Refusal → List ℕ → ℕ → Option Refusal
-refused-or-short (Some e) x space = Some e
-refused-or-short None x space = cond (leb (length x) space) None (Some NoSpace)
+refused-or-short o x space = first-refusal o (refused-unless (leb (length x) space) NoSpace)
 
 pub record Whole {X : Type 0} (text : X → List ℕ) (space : X → ℕ) (keeps : X → X → Type 0) (o : Option Refusal) (a : X) (x : List ℕ) (r : Result (Unit {0}) Refusal) (b : X) : Type 0 where
   pub value : r ≡ unless (refused-or-short o x (space a)) tt

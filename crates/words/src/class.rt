@@ -16,6 +16,7 @@ pub enum Class {
     Raw,
 }
 
+// Whether a character is of the class.
 fn is_in<T: CharTable>(table: &T, class: Class, c: char) -> bool
     ensures { λ r. ⌜ r ≡ in-class (T·CharTable .continues (now (table .entry))) (T·CharTable .shown (now (table .entry))) class c ⌝ }
 {

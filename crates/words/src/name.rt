@@ -5,7 +5,8 @@ ghost use mathlib.Core.Path.{_≡_};
 ghost use Rattle.std.specs.Results.{isOk};
 ghost use Rattle.chars.specs.Utf8.{utf8, decoded};
 ghost use Rattle.output.specs.Puts.{Puts};
-ghost use Rattle.words.specs.Names.{reserved, reserved-from, ends-none-or-nan, ends-inf, name, first-char, bare, form, formed, identifier};
+ghost use Rattle.words.specs.Inner.{reserved-from, ends-none-or-nan, ends-inf};
+ghost use Rattle.words.specs.Names.{reserved, name, first-char, bare, form, formed, identifier};
 ghost use Rattle.words.specs.Refusals.{unless, name-refusal};
 ghost use Rattle.words.specs.Writes.{Writes};
 use crate::class::Class;
@@ -28,7 +29,7 @@ pub enum Form {
     Raw,
 }
 
-/// Whether bytes are a name: not empty, and of raw characters.
+/// Accepts a name: bytes that are not empty, and of continue characters, `.`, `+` and `-`.
 pub fn validate_identifier<T: CharTable>(table: &T, name: &[u8]) -> Result<(), Refusal>
     ensures { λ r. ⌜ r ≡ unless (name-refusal (T·CharTable .continues (now (table .entry))) (now (name .entry))) tt ⌝ }
 {
@@ -140,7 +141,7 @@ fn put_behind<O: Output>(out: &mut O, front: &[u8], back: &[u8]) -> Result<(), F
     out.put(back)
 }
 
-/// A name, bare or behind `r#`.
+/// Writes a name, bare or behind `r#`.
 pub fn write_identifier<O: Output, T: CharTable>(
     out: &mut O,
     table: &T,

@@ -1,4 +1,4 @@
-// Numbers in digits.
+//! Numbers in digits.
 ghost use mathlib.Core.Path.{_≡_};
 ghost use Prim.Native.Nat.{_<_, _≤_};
 ghost use Rattle.std.specs.Results.{isOk};
@@ -16,6 +16,7 @@ fn digit(d: u8) -> u8
     if d < 10 { b'0' + d } else { b'a' + (d - 10) }
 }
 
+// A number in the digits of a base, with no needless zero in front.
 pub(crate) fn put_numeral<O: Output>(out: &mut O, base: u64, n: u64) -> Result<(), Full>
     requires base_low { ⌜ 2 ≤ base ⌝ }
     requires base_high { ⌜ base ≤ 16 ⌝ }

@@ -80,7 +80,7 @@ fn put_unescaped_or_raw_str<O: Output>(out: &mut O, text: &[u8]) -> Result<(), F
     }
 }
 
-/// Text without escapes: raw where it holds a double quote or a backslash, else quoted as it is.
+/// Writes text without escapes: raw where it holds a double quote or a backslash, else in double quotes as it is.
 pub fn serialize_unescaped_or_raw_str<O: Output>(out: &mut O, value: &[u8]) -> Result<(), Refusal>
     ensures { λ r. ⌜ Writes (O·Output .room) (O·Output .took) (text-refusal (now (value .entry))) (now (out .entry)) (unescaped-or-raw-str (decoded (now (value .entry)))) r (now (out .exit)) ⌝ }
 {

@@ -1,13 +1,14 @@
-// Text in quotes, escaped or raw.
-ghost use mathlib.Core.List.{[], _∷_, _++_};
+//! Text in double quotes, with escapes.
 ghost use mathlib.Core.Bool.{true};
+ghost use mathlib.Core.List.{_++_};
 ghost use mathlib.Core.Path.{_≡_};
 ghost use Prim.Native.Nat.{_≤_};
 ghost use lib.ListN.{length};
 ghost use Rattle.chars.specs.Utf8.{utf8, decoded};
 ghost use Rattle.std.specs.Results.{isOk};
 ghost use Rattle.output.specs.Puts.{Puts};
-ghost use Rattle.words.specs.Escapes.{escape, written, code, escapes, escaped-str, Plain-front};
+ghost use Rattle.words.specs.Escapes.{escape, code, escapes, escaped-str};
+ghost use Rattle.words.specs.Inner.{written, Plain-front};
 ghost use Rattle.words.specs.Refusals.{text-refusal};
 ghost use Rattle.words.specs.Writes.{Writes};
 use crate::numeral::put_numeral;
@@ -32,6 +33,7 @@ enum Escape {
     Code,
 }
 
+// Which of them it is.
 fn escape_of<T: CharTable>(table: &T, c: char) -> Escape
     ensures { λ r. ⌜ written r c ≡ escape (T·CharTable .shown (now (table .entry))) c ⌝ }
 {
@@ -85,13 +87,24 @@ fn plain_run<T: CharTable>(table: &T, text: &[u8]) -> usize
     run
 }
 
+// The plain front of a text, and what is left to escape.
+fn split_plain<'a, T: CharTable>(table: &T, text: &'a [u8]) -> (&'a [u8], &'a [u8])
+    requires { ⌜ utf8 (now text) ≡ true ⌝ }
+    ensures parts { λ r. ⌜ escapes (T·CharTable .shown (now (table .entry))) (decoded (now (text .entry))) ≡ now (r .0) ++ escapes (T·CharTable .shown (now (table .entry))) (decoded (now (r .1))) ⌝ }
+    ensures left { λ r. ⌜ utf8 (now (r .1)) ≡ true ⌝ }
+    ensures bound { λ r. ⌜ length (now (r .1)) ≤ length (now (text .entry)) ⌝ }
+{
+    text.split_at(plain_run(table, text))
+}
+
+// Each character as it is or escaped, without the quotes around them.
 fn put_escapes<O: Output, T: CharTable>(out: &mut O, table: &T, text: &[u8]) -> Result<(), Full>
     requires { ⌜ utf8 (now text) ≡ true ⌝ }
     ensures { λ r. ⌜ Puts (O·Output .room) (O·Output .took) (now (out .entry)) (escapes (T·CharTable .shown (now (table .entry))) (decoded (now (text .entry)))) (isOk r) (now (out .exit)) ⌝ }
 {
     let mut rest = text;
     loop {
-        let (plain, after) = rest.split_at(plain_run(table, rest));
+        let (plain, after) = split_plain(table, rest);
         out.put(plain)?;
         let mut cursor = Scalars::new(after);
         match cursor.step() {
@@ -103,7 +116,7 @@ fn put_escapes<O: Output, T: CharTable>(out: &mut O, table: &T, text: &[u8]) -> 
     }
 }
 
-/// An escaped text: in double quotes, with an escape for each character that the table does not show.
+/// Writes text in double quotes, with an escape for each quote, each backslash and each character that the table does not show.
 pub fn serialize_escaped_str<O: Output, T: CharTable>(
     out: &mut O,
     table: &T,

@@ -11,9 +11,10 @@ returns-in-empty c =
 
 pub returns-in-13 : need.returns-in-13
 returns-in-13 c =
-    cut-at-CR-LF (c .args .bytes .now) (c .split-at .result .0 .now) (c .split-at .result .1 .now) (c .split-at .ensures .places .0)
+    let cut = cut-at-CR-LF (c .args .bytes .now) (c .split-at .result .0 .now) (c .split-at .result .1 .now) (c .split-at .ensures .places .0)
     (ap one-line (c .split-at .ensures .front) ∙ c .line-len .ensures .line) (search needs)
-    (first-LF (c .args .bytes .now) _ _ (c .split-at .ensures .back) (c .line-len .ensures .found) (search needs)) (search needs) (search needs)
+    (first-LF (c .args .bytes .now) _ _ (c .split-at .ensures .back) (c .line-len .ensures .found) (search needs)) (search needs) (search needs) in
+    search needs
 
 pub returns-in-rest : need.returns-in-rest
 returns-in-rest c =

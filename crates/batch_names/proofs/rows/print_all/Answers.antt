@@ -28,4 +28,4 @@ loop-rest-again g c =
 pub returns : need.returns
 returns g c =
     let i = c .loop-rest .inv in
-    (i .0, subst (Lines-read (c .args .input .now) (i .0)) (nil-from-length _ (search needs)) (i .1), i .2)
+    (i .0, subst (Lines-read (c .args .input .now) (i .0)) (nil-from-length _ (search needs)) (i .1), search needs)

@@ -1,6 +1,7 @@
 use mathlib.Core.Bool.{not}
 use mathlib.Core.Path.{sym, ap, _∙_}
 use Rattle.std.proofs.shelf.Tests.{both-ways}
+use Rattle.chars.specs.Cursor.{left}
 use Rattle.chars.specs.Utf8.{utf8}
 use Rattle.chars.proofs.Decoding.{utf8-broken}
 use Rattle.words.specs.Classes.{text-of}
@@ -15,19 +16,19 @@ unreachable-requires g c κs =
 pub returns-then-not-is-first : need.returns-then-not-is-first
 returns-then-not-is-first g c =
     let s = c .in-Scalar .ensures tt in
-    bare-first _ (g .T·CharTable .continues (c .args .table .now)) (c .args .name .now) _ _ (c .pre) (s .0) (sym (c .new-cursor .ensures .rest) ∙ s .1) (c .if-not-is-first .ensures tt)
+    bare-first _ (g .T·CharTable .continues (c .args .table .now)) (c .args .name .now) (left (c .step .last .self)) (c .in-Scalar .c) (c .pre) (s .0) (sym (c .new-cursor .ensures .rest) ∙ s .1) (c .if-not-is-first .ensures tt)
 
 pub returns-then-not-is-text-of : need.returns-then-not-is-text-of
 returns-then-not-is-text-of g c =
     let s = c .in-Scalar .ensures tt in
-    bare-rest _ _ (c .args .name .now) _ _ (c .pre) (s .0) (sym (c .new-cursor .ensures .rest) ∙ s .1) (c .if-not-is-first .ensures tt)
+    bare-rest _ _ (c .args .name .now) (left (c .step .last .self)) (c .in-Scalar .c) (c .pre) (s .0) (sym (c .new-cursor .ensures .rest) ∙ s .1) (c .if-not-is-first .ensures tt)
     (c .if-not-is-text-of .ensures tt ∙ ap (text-of (g .T·CharTable .continues (c .args .table .now))) (c .rest .ensures))
 
 pub returns-else-not-is-text-of : need.returns-else-not-is-text-of
 returns-else-not-is-text-of g c =
     let s = c .in-Scalar .ensures tt in
     ap not (c .is-reserved .ensures)
-    ∙ bare-word _ _ (c .args .name .now) _ _ (c .pre) (s .0) (sym (c .new-cursor .ensures .rest) ∙ s .1) (c .if-not-is-first .ensures tt)
+    ∙ bare-word _ _ (c .args .name .now) (left (c .step .last .self)) (c .in-Scalar .c) (c .pre) (s .0) (sym (c .new-cursor .ensures .rest) ∙ s .1) (c .if-not-is-first .ensures tt)
     (c .if-not-is-text-of .ensures tt ∙ ap (text-of (g .T·CharTable .continues (c .args .table .now))) (c .rest .ensures))
 
 pub returns-in-End : need.returns-in-End

@@ -1,4 +1,4 @@
-use mathlib.Core.Path.{_≡_, refl, sym, _∙_}
+use mathlib.Core.Path.{sym, _∙_}
 use Rattle.std.proofs.shelf.Tests.{eq-eqb, or-left, or-right}
 use Rattle.words.proofs.Hashes.{holds-here, holds-behind, holds-nowhere}
 use Rattle.words.proofs.raw.has_quote.Needs as need

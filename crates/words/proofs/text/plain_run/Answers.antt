@@ -7,7 +7,7 @@ use Rattle.words.proofs.Runs.{plain-more}
 use Rattle.words.proofs.text.plain_run.Needs as need
 
 pub loop-c-less : need.loop-c-less
-loop-c-less g c = let s = c .in-Scalar .ensures tt in shorter _ _ _ (s .0) (s .1)
+loop-c-less g c = let s = c .in-Scalar .ensures tt in shorter (left (c .loop-c .cursor)) (left (c .step .last .self)) (c .in-Scalar .c) (s .0) (s .1)
 
 pub loop-c-again : need.loop-c-again
 loop-c-again g c =

@@ -2,7 +2,7 @@ use mathlib.Core.Path.{_≡_}
 use Prim.Native.Nat.{_≤_}
 use lib.ListN.{length, drop}
 use Rattle.chars.specs.Cursor.{left}
-use Rattle.words.specs.Escapes.{Plain-front}
+use Rattle.words.specs.Inner.{Plain-front}
 use Rattle.words.proofs.text.plain_run.Given as given
 
 abbrev pub Inv-loop-c : given.InvT-loop-c
