@@ -7,7 +7,7 @@ use Rattle.words.specs.Writes.{Writes}
 use Rattle.words.specs.declared.name.Form.{Form}
 use Rattle.words.specs.declared.refusal.Refusal.{Refusal}
 use Rattle.batch_names.specs.Forms.{line_unless}
-use Rattle.inputs.specs.Lines.{LF}
+use Rattle.batch_names.specs.Lines.{LF}
 use Rattle.batch_names.specs.Tally.{standing_of, standing_unless}
 
 module _ {X : Type 0} {room : X → ℕ} {took : X → List ℕ → X → Type 0} where

@@ -1,2 +1,3 @@
 mod BackAgain
+mod Cuts
 mod InTurn

@@ -10,12 +10,17 @@ use Rattle.words.specs.Names.{identifier}
 use Rattle.words.specs.RawText.{unescaped_or_raw_str}
 use Rattle.words.specs.Refusals.{name_refusal}
 use Rattle.words.specs.declared.refusal.Refusal.{Refusal}
-use Rattle.inputs.specs.Lines.{LF}
+use Rattle.batch_names.specs.Lines.{LF}
 
 -- a line of its own, or none for what is refused
 abbrev pub line_unless : Option Refusal → List ℕ → List ℕ
 line_unless None x = x ++ LF ∷ []
 line_unless (Some e) x = []
+
+-- what is shown of a name: its forms, or why not
+abbrev pub Shown : Option Refusal → List ℕ → Result (Bor (List ℕ)) Refusal → Type 0
+Shown o x (Ok part) = (o ≡ None) × (part.now ≡ x)
+Shown o x (Err e) = o ≡ Some e
 
 module _ (starts continues shown : ℕ → Bool) where
   abbrev pub forms : List ℕ → List ℕ

@@ -1,10 +1,10 @@
 //! The forms of a batch name, as RON text.
 ghost use Rattle.std.specs.Prelude.{◌^◌, min, length, None};
-ghost use Rattle.batch_names.specs.Forms.{line_unless, forms, ShownReadsBack};
+ghost use Rattle.batch_names.specs.Forms.{line_unless, forms, Shown, ShownReadsBack};
 ghost use Rattle.chars.specs.Utf8.{decoded};
 ghost use Rattle.words.specs.Names.{identifier};
 ghost use Rattle.words.specs.Refusals.{text_refusal, name_refusal};
-ghost use Rattle.words.specs.Whole.{Whole, refused_or_short, Shown};
+ghost use Rattle.words.specs.Whole.{Whole, refused_or_short};
 ghost use Rattle.words.specs.Writes.{Writes};
 
 use chars::table::CharTable;

@@ -1,4 +1,6 @@
 //! Batch names, one a line on standard input, as RON text. The second argument, if there is one, is the file of a character table.
+#![tactic(auto)]
+
 use crate::rows::print_all;
 use crate::summary::Summary;
 use anyhow::anyhow;
@@ -8,6 +10,7 @@ use std::io::Read;
 use std::{env, fs};
 
 mod forms;
+mod lines;
 mod rows;
 mod summary;
 

@@ -3,14 +3,14 @@ ghost use Rattle.std.specs.Prelude.{◌≡◌, ℕ, ◌^◌, min, List, [], map,
 ghost use Rattle.chars.specs.Utf8.{decoded};
 ghost use Rattle.words.specs.Names.{form};
 ghost use Rattle.words.specs.Refusals.{name_refusal};
-ghost use Rattle.inputs.specs.Lines.{LinesRead};
+ghost use Rattle.batch_names.specs.Lines.{LinesRead};
 ghost use Rattle.batch_names.specs.Tally.{standing_of, standing_unless, outcome, Sums};
 
 use crate::forms::shown_forms;
+use crate::lines::split_line;
 use crate::summary::{Outcome, Standing, Summary};
 use chars::table::CharTable;
 use chars::utf8::malformed_at;
-use inputs::lines::split_line;
 use std::io::Write;
 use words::class::{Class, is_text_of};
 use words::name::{Form, identifier_form};

@@ -1,4 +1,6 @@
 //! Characters: UTF-8, the blanks of RON, and tables of the characters that names and texts are made of.
+#![tactic(auto)]
+
 pub mod blank;
 pub mod encoding;
 pub mod ranges;

@@ -1,4 +1,6 @@
 //! The grammar of RON text as a relation between texts and trees, and what is proved of it.
+#![tactic(auto)]
+
 ghost use Rattle.grammar.specs.Readings.{NoTextHasTwoReadings};
 ghost use Rattle.grammar.specs.Worked.{WorkedReadings};
 

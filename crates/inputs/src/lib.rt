@@ -1,4 +1,6 @@
 //! What the programs read: lines, fields, numbers in hexadecimal and character tables.
+#![tactic(auto)]
+
 pub mod fields;
 pub mod hex;
 pub mod lines;

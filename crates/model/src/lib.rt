@@ -1,5 +1,7 @@
 //! The writer as definitions: `specs/` says what a document is, what each call does to it, and what its text reads as.
 //! The code has the two enums that these definitions name, and functions that do nothing and whose contracts are what holds of every run.
+#![tactic(auto)]
+
 ghost use Rattle.model.specs.Promises.{EveryRunReadsAsItsCalls};
 
 pub mod examples;

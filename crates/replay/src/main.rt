@@ -1,5 +1,7 @@
 //! Answers call scripts, one document a line on standard input, with what the words of this repository write for them.
 //! The argument, if there is one, is the file of a character table.
+#![tactic(auto)]
+
 use crate::answer::print_answers;
 use anyhow::anyhow;
 use chars::table::Ascii;

@@ -1,4 +1,5 @@
 //! The words of a RON text, one literal each, written to any output: text, escaped or raw, and names.
+#![tactic(auto)]
 
 pub mod class;
 pub mod name;

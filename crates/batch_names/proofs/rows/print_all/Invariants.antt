@@ -1,5 +1,5 @@
 use Rattle.std.proofs.Common.{ℕ, ◌^◌, min, List, map, length}
-use Rattle.inputs.specs.Lines.{LinesRead}
+use Rattle.batch_names.specs.Lines.{LinesRead}
 use Rattle.batch_names.specs.Tally.{outcome, Sums}
 use Rattle.batch_names.proofs.rows.print_all.Given as goal
 

@@ -15,16 +15,16 @@ loop-r-init c =
     let rs = c.args.ranges.now in
     sym (ap (λ b. b && good_from 0 rs) (le-leb (length rs) 4096 c.if-ranges-gt-MOST.false))
 
-pub returns-then-not-is-fit : goal.returns-then-not-is-fit
-returns-then-not-is-fit c =
-    turn c.args.ranges.now c.loop-r.r-index c.loop-r.from _ false _ c.loop-r-test.true c.loop-r.invariant c.if-not-is-fit.ensures
+pub returns-then-not-is_fit : goal.returns-then-not-is_fit
+returns-then-not-is_fit c =
+    turn c.args.ranges.now c.loop-r.r-index c.loop-r.from _ false _ c.loop-r-test.true c.loop-r.invariant c.if-not-is_fit.ensures
 
 pub loop-r-preserved : goal.loop-r-preserved
 loop-r-preserved c =
-    turn c.args.ranges.now c.loop-r.r-index c.loop-r.from _ true _ c.loop-r-test.true c.loop-r.invariant c.if-not-is-fit.ensures
+    turn c.args.ranges.now c.loop-r.r-index c.loop-r.from _ true _ c.loop-r-test.true c.loop-r.invariant c.if-not-is_fit.ensures
 
 pub returns : goal.returns
 unfolding good_from
 returns c =
     let rs = c.args.ranges.now in
-    c.is-gap.ensures ∙ sym (at_drop_all (good_from c.loop-r.from) rs c.loop-r.r-index c.loop-r-test.false) ∙ c.loop-r.invariant
+    c.is_gap.ensures ∙ sym (at_drop_all (good_from c.loop-r.from) rs c.loop-r.r-index c.loop-r-test.false) ∙ c.loop-r.invariant

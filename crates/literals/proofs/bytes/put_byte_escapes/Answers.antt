@@ -5,15 +5,15 @@ use Rattle.output.proofs.Pieces.{puts_as, puts_then, puts_stop, puts_exit, puts_
 use Rattle.literals.specs.Bytes.{byte_escape}
 use Rattle.literals.proofs.bytes.put_byte_escapes.Goals as goal
 
-pub returns-in-err-put-byte : goal.returns-in-err-put-byte
-returns-in-err-put-byte g c =
-    puts_exit _ c.from-residual.ensures.0
-    (c.loop-b.invariant _ _ (puts_as (sym (at_drop_more (flat_map byte_escape) c.args.bytes.now c.loop-b.b-index 0 c.loop-b-test.true)) (puts_stop _ c.in-err-put-byte.ensures)))
+pub returns-in_err-put_byte : goal.returns-in_err-put_byte
+returns-in_err-put_byte g c =
+    puts_exit _ c.from_residual.ensures.0
+    (c.loop-b.invariant _ _ (puts_as (sym (at_drop_more (flat_map byte_escape) c.args.bytes.now c.loop-b.b-index 0 c.loop-b-test.true)) (puts_stop _ c.in_err-put_byte.ensures)))
 
 pub loop-b-preserved : goal.loop-b-preserved
 loop-b-preserved g c =
-    λ r o p. c.loop-b.invariant r o (puts_as (sym (at_drop_more (flat_map byte_escape) c.args.bytes.now c.loop-b.b-index 0 c.loop-b-test.true)) (puts_then g.row.O-Output.adds c.in-ok-put-byte.ensures p))
+    λ r o p. c.loop-b.invariant r o (puts_as (sym (at_drop_more (flat_map byte_escape) c.args.bytes.now c.loop-b.b-index 0 c.loop-b-test.true)) (puts_then g.O.Output.adds c.in_ok-put_byte.ensures p))
 
 pub returns : goal.returns
 returns g c =
-    c.loop-b.invariant _ _ (puts_as (sym (at_drop_all (flat_map byte_escape) c.args.bytes.now c.loop-b.b-index c.loop-b-test.false)) (puts_none g.row.O-Output.adds))
+    c.loop-b.invariant _ _ (puts_as (sym (at_drop_all (flat_map byte_escape) c.args.bytes.now c.loop-b.b-index c.loop-b-test.false)) (puts_none g.O.Output.adds))

@@ -8,5 +8,5 @@ use Rattle.literals.proofs.bytes.put_byte_escapes.Given as goal
 abbrev pub invariant-loop-b : goal.invariant-loop-b
 invariant-loop-b g l =
     (r : Bool) (o : g.row.O.Denot)
-    → Puts g.row.O-Output.room g.row.O-Output.took l.out (flat_map byte_escape (drop l.b-index l.bytes)) r o
-    → Puts g.row.O-Output.room g.row.O-Output.took l.initial.out (flat_map byte_escape l.bytes) r o
+    → Puts g.O.Output.room g.O.Output.took l.out (flat_map byte_escape (drop l.b-index l.bytes)) r o
+    → Puts g.O.Output.room g.O.Output.took l.initial.out (flat_map byte_escape l.bytes) r o

@@ -7,11 +7,11 @@ use Rattle.literals.specs.Floats.{float_text}
 use Rattle.literals.proofs.Tests.{refused_first, decided_next}
 use Rattle.literals.proofs.float.check_float.Goals as goal
 
-pub returns-in-err-check-bytes : goal.returns-in-err-check-bytes
-returns-in-err-check-bytes c =
-    refused_first (bytes_refusal c.args.text.now) (refused_unless (float_text c.args.text.now) NotFloat) c.in-err-check-bytes.ensures (exits _ _ c.from-residual.ensures.1)
+pub returns-in_err-check_bytes : goal.returns-in_err-check_bytes
+returns-in_err-check_bytes c =
+    refused_first (bytes_refusal c.args.text.now) (refused_unless (float_text c.args.text.now) NotFloat) c.in_err-check_bytes.ensures (exits _ _ c.from_residual.ensures.1)
 
-pub returns-then-is-float : goal.returns-then-is-float
-returns-then-is-float c =
-    decided_next (bytes_refusal c.args.text.now) (refused_unless (float_text c.args.text.now) NotFloat) c.in-ok-check-bytes.ensures
-    (ap (λ t. unless (refused_unless t NotFloat) tt) c.if-is-float.ensures)
+pub returns-then-is_float : goal.returns-then-is_float
+returns-then-is_float c =
+    decided_next (bytes_refusal c.args.text.now) (refused_unless (float_text c.args.text.now) NotFloat) c.in_ok-check_bytes.ensures
+    (ap (λ t. unless (refused_unless t NotFloat) tt) c.if-is_float.ensures)

@@ -4,4 +4,4 @@ use Rattle.literals.specs.Floats.{decimal}
 use Rattle.literals.proofs.float.is_decimal.Goals as goal
 
 pub returns-in-len1-up : goal.returns-in-len1-up
-returns-in-len1-up c = c.is-decimal-from.ensures ∙ ap decimal (sym (first_rest c.args.s.now 0 (search rules)))
+returns-in-len1-up c = c.is_decimal_from.ensures ∙ ap decimal (sym (first_rest c.args.s.now 0 (search rules)))

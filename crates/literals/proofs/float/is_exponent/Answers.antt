@@ -4,4 +4,4 @@ use Rattle.literals.specs.Floats.{exponent}
 use Rattle.literals.proofs.float.is_exponent.Goals as goal
 
 pub returns-in-len1-up : goal.returns-in-len1-up
-returns-in-len1-up c = c.is-exponent-from.ensures ∙ ap exponent (sym (first_rest c.args.s.now 0 (search rules)))
+returns-in-len1-up c = c.is_exponent_from.ensures ∙ ap exponent (sym (first_rest c.args.s.now 0 (search rules)))

@@ -3,4 +3,4 @@ use Rattle.literals.proofs.Digits.{minus_first}
 use Rattle.literals.proofs.float.is_float.Goals as goal
 
 pub returns-in-45 : goal.returns-in-45
-returns-in-45 c = c.is-unsigned.ensures ∙ minus_first c.args.s.now (search rules) (search rules)
+returns-in-45 c = c.is_unsigned.ensures ∙ minus_first c.args.s.now (search rules) (search rules)

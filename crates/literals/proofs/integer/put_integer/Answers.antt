@@ -4,18 +4,18 @@ use Rattle.words.specs.Numerals.{numeral}
 use Rattle.literals.specs.Integers.{sign, suffix_if}
 use Rattle.literals.proofs.integer.put_integer.Goals as goal
 
-pub returns-in-err-put-sign : goal.returns-in-err-put-sign
-returns-in-err-put-sign g c =
-    puts_exit _ c.from-residual.ensures.0 (puts_stop _ (puts_as (ap sign c.is-negative.ensures) c.in-err-put-sign.ensures))
+pub returns-in_err-put_sign : goal.returns-in_err-put_sign
+returns-in_err-put_sign g c =
+    puts_exit _ c.from_residual.ensures.0 (puts_stop _ (puts_as (ap sign c.is_negative.ensures) c.in_err-put_sign.ensures))
 
-pub returns-in-err-put-decimal : goal.returns-in-err-put-decimal
-returns-in-err-put-decimal g c =
-    puts_exit _ c.from-residual-in-err-put-decimal.ensures.0
-    (puts_then g.row.O-Output.adds (puts_as (ap sign c.is-negative.ensures) c.in-ok-put-sign.ensures)
-    (puts_stop _ (puts_as (ap (numeral 10) c.magnitude.ensures) c.in-err-put-decimal.ensures)))
+pub returns-in_err-put_decimal : goal.returns-in_err-put_decimal
+returns-in_err-put_decimal g c =
+    puts_exit _ c.from_residual-in_err-put_decimal.ensures.0
+    (puts_then g.O.Output.adds (puts_as (ap sign c.is_negative.ensures) c.in_ok-put_sign.ensures)
+    (puts_stop _ (puts_as (ap (numeral 10) c.magnitude.ensures) c.in_err-put_decimal.ensures)))
 
 pub returns : goal.returns
 returns g c =
-    puts_then g.row.O-Output.adds (puts_as (ap sign c.is-negative.ensures) c.in-ok-put-sign.ensures)
-    (puts_then g.row.O-Output.adds (puts_as (ap (numeral 10) c.magnitude.ensures) c.in-ok-put-decimal.ensures)
-    (puts_as (ap (suffix_if c.args.number_suffixes) c.suffix.ensures) c.put-suffix.ensures))
+    puts_then g.O.Output.adds (puts_as (ap sign c.is_negative.ensures) c.in_ok-put_sign.ensures)
+    (puts_then g.O.Output.adds (puts_as (ap (numeral 10) c.magnitude.ensures) c.in_ok-put_decimal.ensures)
+    (puts_as (ap (suffix_if c.args.number_suffixes) c.suffix.ensures) c.put_suffix.ensures))

@@ -3,12 +3,12 @@ use Rattle.words.proofs.Measured.{refusal_is, shown_refused, shown_whole}
 use Rattle.replay.specs.Values.{value_text, value_refusal}
 use Rattle.replay.proofs.value.shown_value.Goals as goal
 
-pub returns-in-err-put-value : goal.returns-in-err-put-value
-returns-in-err-put-value g c =
+pub returns-in_err-put_value : goal.returns-in_err-put_value
+returns-in_err-put_value g c =
     let o = value_refusal (g.T.CharTable.starts c.args.table.now) (g.T.CharTable.continues c.args.table.now) (g.T.CharTable.shown c.args.table.now) c.args.settings c.args.value.now in
-    shown_refused _ _ _ _ c.from-residual.ensures.1 (refusal_is o _ c.new-buffer.ensures.space c.in-err-put-value.ensures)
+    shown_refused _ _ _ _ c.from_residual.ensures.1 (refusal_is o _ c.new-buffer.ensures.space c.in_err-put_value.ensures)
 
 pub returns : goal.returns
 returns g c =
     let o = value_refusal (g.T.CharTable.starts c.args.table.now) (g.T.CharTable.continues c.args.table.now) (g.T.CharTable.shown c.args.table.now) c.args.settings c.args.value.now in
-    shown_whole o _ c.text.result c.new-buffer.ensures.space c.new-buffer.ensures.text (c.text.ensures ∙ c.into-parts-memory.ensures.text) c.in-ok-put-value.ensures
+    shown_whole o _ c.text.result c.new-buffer.ensures.space c.new-buffer.ensures.text (c.text.ensures ∙ c.into_parts-memory.ensures.text) c.in_ok-put_value.ensures

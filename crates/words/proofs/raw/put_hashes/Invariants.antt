@@ -7,5 +7,5 @@ use Rattle.words.proofs.raw.put_hashes.Given as goal
 abbrev pub invariant-loop-i : goal.invariant-loop-i
 invariant-loop-i g l =
     (r : Bool) (b : g.row.O.Denot)
-    → Puts g.row.O-Output.room g.row.O-Output.took l.out (replicate (l.n - l.-i) hash) r b
-    → Puts g.row.O-Output.room g.row.O-Output.took l.initial.out (replicate l.n hash) r b
+    → Puts g.O.Output.room g.O.Output.took l.out (replicate (l.n - l._i) hash) r b
+    → Puts g.O.Output.room g.O.Output.took l.initial.out (replicate l.n hash) r b

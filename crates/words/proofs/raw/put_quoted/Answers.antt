@@ -1,15 +1,15 @@
 use Rattle.output.proofs.Pieces.{puts_then, puts_stop, puts_exit}
 use Rattle.words.proofs.raw.put_quoted.Goals as goal
 
-pub returns-in-err-put : goal.returns-in-err-put
-returns-in-err-put g c = puts_exit _ c.from-residual.ensures.0 (puts_stop _ c.in-err-put.ensures.puts)
+pub returns-in_err-put : goal.returns-in_err-put
+returns-in_err-put g c = puts_exit _ c.from_residual.ensures.0 (puts_stop _ c.in_err-put.ensures.puts)
 
-pub returns-in-err-put-2 : goal.returns-in-err-put-2
-returns-in-err-put-2 g c =
-    puts_exit _ c.from-residual-in-err-put-2.ensures.0
-    (puts_then g.row.O-Output.adds c.in-ok-put.ensures.puts (puts_stop _ c.in-err-put-2.ensures.puts))
+pub returns-in_err-put-2 : goal.returns-in_err-put-2
+returns-in_err-put-2 g c =
+    puts_exit _ c.from_residual-in_err-put-2.ensures.0
+    (puts_then g.O.Output.adds c.in_ok-put.ensures.puts (puts_stop _ c.in_err-put-2.ensures.puts))
 
 pub returns : goal.returns
 returns g c =
-    puts_then g.row.O-Output.adds c.in-ok-put.ensures.puts
-    (puts_then g.row.O-Output.adds c.in-ok-put-2.ensures.puts c.put-3.ensures.puts)
+    puts_then g.O.Output.adds c.in_ok-put.ensures.puts
+    (puts_then g.O.Output.adds c.in_ok-put-2.ensures.puts c.put-3.ensures.puts)

@@ -2,14 +2,14 @@ use Rattle.output.proofs.Pieces.{puts_as, puts_then, puts_stop, puts_exit}
 use Rattle.words.proofs.Hashes.{raw_is, quoted_is}
 use Rattle.words.proofs.raw.put_unescaped_or_raw_str.Goals as goal
 
-pub returns-in-err-put : goal.returns-in-err-put
-returns-in-err-put g c =
-    puts_exit _ c.from-residual.ensures.0
-    (puts_as (raw_is c.args.text.now c.requires c.if-has-quote.ensures) (puts_stop _ c.in-err-put.ensures.puts))
+pub returns-in_err-put : goal.returns-in_err-put
+returns-in_err-put g c =
+    puts_exit _ c.from_residual.ensures.0
+    (puts_as (raw_is c.args.text.now c.requires c.if-has_quote.ensures) (puts_stop _ c.in_err-put.ensures.puts))
 
-pub returns-in-ok-put : goal.returns-in-ok-put
-returns-in-ok-put g c =
-    puts_as (raw_is c.args.text.now c.requires c.if-has-quote.ensures) (puts_then g.row.O-Output.adds c.in-ok-put.ensures.puts c.put-fenced.ensures)
+pub returns-in_ok-put : goal.returns-in_ok-put
+returns-in_ok-put g c =
+    puts_as (raw_is c.args.text.now c.requires c.if-has_quote.ensures) (puts_then g.O.Output.adds c.in_ok-put.ensures.puts c.put_fenced.ensures)
 
-pub returns-else-has-quote : goal.returns-else-has-quote
-returns-else-has-quote g c = puts_as (quoted_is c.args.text.now c.requires c.if-has-quote.ensures) c.put-quoted.ensures
+pub returns-else-has_quote : goal.returns-else-has_quote
+returns-else-has_quote g c = puts_as (quoted_is c.args.text.now c.requires c.if-has_quote.ensures) c.put_quoted.ensures

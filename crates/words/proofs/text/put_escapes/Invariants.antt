@@ -9,8 +9,8 @@ abbrev pub invariant-loop-cursor : goal.invariant-loop-cursor
 invariant-loop-cursor g l =
     (utf8 l.rest ≡ true)
     × ((r : Bool) (b : g.row.O.Denot)
-    → Puts g.row.O-Output.room g.row.O-Output.took l.out (escapes (g.T.CharTable.shown l.table) (decoded l.rest)) r b
-    → Puts g.row.O-Output.room g.row.O-Output.took l.initial.out (escapes (g.T.CharTable.shown l.table) (decoded l.initial.rest)) r b)
+    → Puts g.O.Output.room g.O.Output.took l.out (escapes (g.T.CharTable.shown l.table) (decoded l.rest)) r b
+    → Puts g.O.Output.room g.O.Output.took l.initial.out (escapes (g.T.CharTable.shown l.table) (decoded l.initial.rest)) r b)
 
 abbrev pub decreases-loop-cursor : goal.decreases-loop-cursor
 decreases-loop-cursor g l = length l.rest

@@ -5,13 +5,13 @@ use Rattle.chars.proofs.Answering.{means}
 use Rattle.chars.proofs.Checking.{decides_table}
 use Rattle.chars.proofs.ranges.Ranges.new.Goals as goal
 
-pub returns-then-is-good : goal.returns-then-is-good
-returns-then-is-good c =
+pub returns-then-is_good : goal.returns-then-is_good
+returns-then-is_good c =
     let rs = c.args.ranges.now in
-    let t = (decides_table rs).0 (sym c.if-is-good.ensures) in
+    let t = (decides_table rs).0 (sym c.if-is_good.ensures) in
     (t, means rs t)
 
-pub returns-else-is-good : goal.returns-else-is-good
-returns-else-is-good c =
+pub returns-else-is_good : goal.returns-else-is_good
+returns-else-is_good c =
     let rs = c.args.ranges.now in
-    not_from_Decides (good rs) (decides_table rs) (sym c.if-is-good.ensures)
+    not_from_Decides (good rs) (decides_table rs) (sym c.if-is_good.ensures)

@@ -38,8 +38,8 @@ returns c =
     let m = p.first.now in
     let n = p.second.now in
     let x = c.args.bytes.now in
-    let i = c.in-first-first-start.result in
-    let j = c.in-second-second-start.result in
+    let i = c.in_first-first_start.result in
+    let j = c.in_second-second_start.result in
     let k = c.min-cut.result in
     let front = take k x in
     let back = take (length x - k) (drop k x) in
@@ -48,23 +48,23 @@ returns c =
     let free : length x ≤ pair_space p = omega arith in
     let cut : k ≡ min (length x) (first_size p - in_first p) = cc in
     -- the two memories once they are written
-    let w = c.write-at.new.mem in
-    let v = c.write-at-2.new.mem in
+    let w = c.write_at.new.mem in
+    let v = c.write_at-2.new.mem in
     let front_fits : i + length front ≤ length m = omega arith in
     let back_fits : j + length back ≤ length n = omega arith in
-    let first_length : length w ≡ length m = written_length m w front i front_fits c.write-at.ensures in
-    let second_length : length v ≡ length n = written_length n v back j back_fits c.write-at-2.ensures in
+    let first_length : length w ≡ length m = written_length m w front i front_fits c.write_at.ensures in
+    let second_length : length v ≡ length n = written_length n v back j back_fits c.write_at-2.ensures in
     -- how much of each is text then
-    let first-len = min (p.used + length x) (min (length w) (2 ^ 30)) in
-    let second-len = min (p.used + length x - min (length w) (2 ^ 30)) (min (length v) (2 ^ 30)) in
-    let first_ends : first-len ≡ i + length front = omega arith in
-    let second-ends : second-len ≡ j + length back = cc (second-then p.used (first_size p) (second_size p) (length x) k free cut) in
-    let first-text : take first-len w ≡ take (in_first p) m ++ front =
-    ap (λ (z : ℕ). take z w) first_ends ∙ written_text m w front i front_fits c.write-at.ensures
-    ∙ ap (λ (z : ℕ). take z m ++ front) c.in-first-first-start.ensures in
-    let second-text : take second-len v ≡ take (in_second p) n ++ drop k x =
-    ap (λ (z : ℕ). take z v) second-ends ∙ written_text n v back j back_fits c.write-at-2.ensures
-    ∙ ap (λ (z : ℕ). take z n ++ back) c.in-second-second-start.ensures ∙ ap (λ (z : List ℕ). take (in_second p) n ++ z) (take_rest x k) in
+    let first_len = min (p.used + length x) (min (length w) (2 ^ 30)) in
+    let second_len = min (p.used + length x - min (length w) (2 ^ 30)) (min (length v) (2 ^ 30)) in
+    let first_ends : first_len ≡ i + length front = omega arith in
+    let second-ends : second_len ≡ j + length back = cc (second-then p.used (first_size p) (second_size p) (length x) k free cut) in
+    let first-text : take first_len w ≡ take (in_first p) m ++ front =
+    ap (λ (z : ℕ). take z w) first_ends ∙ written_text m w front i front_fits c.write_at.ensures
+    ∙ ap (λ (z : ℕ). take z m ++ front) c.in_first-first_start.ensures in
+    let second-text : take second_len v ≡ take (in_second p) n ++ drop k x =
+    ap (λ (z : ℕ). take z v) second-ends ∙ written_text n v back j back_fits c.write_at-2.ensures
+    ∙ ap (λ (z : ℕ). take z n ++ back) c.in_second-second_start.ensures ∙ ap (λ (z : List ℕ). take (in_second p) n ++ z) (take_rest x k) in
     let one-empty : (length (take (in_second p) n) ≡ 0) ⊎ (k ≡ 0) =
     ⊎_elim
     (λ (h : p.used < first_size p). inl (simp length-take (omega arith)))
@@ -78,8 +78,8 @@ returns c =
         grows = omega arith;
         first_length = first_length;
         second_length = second_length;
-        first_behind = λ l h. written_behind m w front i front_fits c.write-at.ensures l (omega arith);
-        second_behind = λ l h. written_behind n v back j back_fits c.write-at-2.ensures l (omega arith);
+        first_behind = λ l h. written_behind m w front i front_fits c.write_at.ensures l (omega arith);
+        second_behind = λ l h. written_behind n v back j back_fits c.write_at-2.ensures l (omega arith);
         first_place = refl;
         second_place = refl;
       };
