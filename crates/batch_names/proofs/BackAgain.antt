@@ -1,5 +1,5 @@
 -- What is shown of a name reads back as the name.
-use Rattle.std.proofs.Common.{◌≡◌, ℕ, Bool, List, Some, None, Ok, Err, Option, Result, sym, refl, ap, ◌∙◌, subst, arith, Bor}
+use Rattle.std.proofs.Common.{◌≡◌, ℕ, Bool, List, Some, None, Ok, Err, Option, Result, sym, refl, ap, subst, arith, Bor}
 use Rattle.chars.specs.Utf8.{decoded}
 use Rattle.grammar.specs.ReadBack.{ReadsBack, LiteralsReadBack}
 use Rattle.grammar.specs.Readings.{ReadsOnly, NoTextHasTwoReadings}

@@ -1,8 +1,8 @@
 -- The bytes of a character beyond ASCII are all beyond ASCII.
-use Rattle.std.proofs.Common.{◌≡◌, ℕ, ◌<◌, ◌≤◌, Bool, true, ◌⊎◌, List, [], ◌∷◌, sym, subst, inl, inr, arith}
+use Rattle.std.proofs.Common.{◌≡◌, ℕ, ◌≤◌, true, ◌⊎◌, List, [], ◌∷◌, inl, inr, arith}
 use Rattle.std.proofs.lemmas.Bool.{and_parts}
 use Rattle.std.proofs.lemmas.Bool.Decides.{nat_tests}
-use Rattle.chars.specs.Utf8.{scalar, encode, tail, one_byte, two_bytes, three_bytes, four_bytes, of_two, of_three, of_four}
+use Rattle.chars.specs.Utf8.{scalar, encode, tail, two_bytes, three_bytes, four_bytes, of_two, of_three, of_four}
 use Rattle.chars.proofs.Decoding.{Spelled, in_one, in_two, in_three, in_four, spelled}
 
 -- every byte is 0x80 or more

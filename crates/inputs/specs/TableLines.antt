@@ -1,6 +1,6 @@
 -- A character table as text. A line is a range: its first and its last character in hexadecimal, and the letters of its sets, s for
 -- start, c for continue and h for shown, in this order; the three are parted by a space. Assumes nothing.
-use Rattle.std.specs.Prelude.{◌≡◌, ℕ, ◌<◌, Bool, true, false, cond, List, [], ◌∷◌, ◌++◌, length, Some, None, Option, ◌==◌}
+use Rattle.std.specs.Prelude.{◌≡◌, ℕ, ◌<◌, cond, List, [], ◌∷◌, ◌++◌, length, Some, None, Option, ◌==◌}
 use Rattle.chars.specs.declared.ranges.Range.{Range}
 use Rattle.inputs.specs.Fields.{before, behind, led, past}
 use Rattle.inputs.specs.Hex.{hex_number}

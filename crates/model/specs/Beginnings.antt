@@ -7,7 +7,7 @@ use Rattle.words.specs.Classes.{text_of}
 use Rattle.grammar.specs.Readings.{Extension, extension_name, unwrap_newtypes, implicit_some, explicit_struct_names}
 use Rattle.model.specs.Refusals.{first, refused_unless, unless}
 use Rattle.model.specs.Settings.{Extensions, PrettyConfig, Settings, has}
-use Rattle.model.specs.States.{Table, Layout, Allowance, State}
+use Rattle.model.specs.States.{Table, Allowance, State}
 use Rattle.model.specs.declared.refusal.Refusal.{Refusal}
 use Rattle.model.specs.declared.refusal.Refusal.TheVariants.{NewLineNotBlank, IndentorNotBlank, SeparatorNotBlank, LayoutTooLong, NoSpace}
 

@@ -9,7 +9,7 @@ use Rattle.model.specs.Settings.{Settings}
 use Rattle.model.specs.Requests.{Ticket, Value, none, Opening, kind_of, Request, put, start, end, abandon, finish, Call, value, opening, ending, abandoning, finishing}
 use Rattle.model.specs.States.{Table, State}
 use Rattle.model.specs.Beginnings.{beginning_refusal, begun}
-use Rattle.model.specs.Places.{single, shows, most_elements, most_frames, has_value, takes_element, admission, value_refusal, opening_refusal, depth_refusal, lacks_value, refusal}
+use Rattle.model.specs.Places.{single, shows, has_value, takes_element, admission, value_refusal, opening_refusal, depth_refusal, lacks_value, refusal}
 use Rattle.model.specs.Spellings.{none_bytes, lead, appended}
 use Rattle.model.specs.Steps.{next, finished, answer}
 use Rattle.model.specs.Making.{Held, Made, silent_somes, made, writes_alone}

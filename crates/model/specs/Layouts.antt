@@ -1,6 +1,6 @@
 -- The layout: what stands between and around the elements of a frame, and how it changes the indent.
 -- From `start_indent`, `end_indent`, `serialize_element` and `end` of src/ser/mod.rs of ron 0.12.3. Assumes nothing.
-use Rattle.std.specs.Prelude.{ℕ, zero, suc, ◌+◌, ◌-◌, Bool, true, false, cond, not, ◌&&◌, List, [], ◌∷◌, ◌++◌, Some, None, Option, ◌==◌, nat_le}
+use Rattle.std.specs.Prelude.{ℕ, zero, suc, ◌+◌, ◌-◌, Bool, false, cond, not, ◌&&◌, List, [], ◌∷◌, ◌++◌, Some, None, Option, ◌==◌, nat_le}
 use Rattle.std.specs.Option.{unwrap_or}
 use Rattle.model.specs.Settings.{PrettyConfig}
 use Rattle.model.specs.States.{Frame, Layout}

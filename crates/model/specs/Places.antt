@@ -1,6 +1,6 @@
 -- Why a request is refused: each test by itself, and then all of them in their order.
 -- The limits are those of a controller: 256 frames, 65,535 elements of a frame. Assumes nothing.
-use Rattle.std.specs.Prelude.{ℕ, Bool, true, false, not, ◌&&◌, ◌||◌, List, [], ◌∷◌, length, Some, None, Option, ◌==◌, nat_le, nat_lt}
+use Rattle.std.specs.Prelude.{ℕ, Bool, true, false, not, ◌&&◌, List, [], ◌∷◌, length, Some, None, Option, ◌==◌, nat_le, nat_lt}
 use Rattle.words.specs.Refusals.{first_refusal, text_refusal, name_refusal}
 use Rattle.words.specs.declared.refusal.Refusal.{Refusal as Word-refusal}
 use Rattle.literals.specs.Bytes.{bytes_refusal}

@@ -5,7 +5,7 @@ use Rattle.grammar.specs.Readings.{Extension, Reads}
 use Rattle.grammar.specs.Trees.{Tree}
 use Rattle.model.specs.Requests.{finish}
 use Rattle.model.specs.Places.{refusal}
-use Rattle.model.specs.Making.{Style, Makes, OneWholeValue}
+use Rattle.model.specs.Making.{Makes, OneWholeValue}
 use Rattle.model.specs.Runs.{Run, reached, document_text, accepted, style}
 
 -- finish is accepted where the run leads to

@@ -1,6 +1,6 @@
 -- The settings of a document: the default extensions, a `PrettyConfig` or none, and a recursion limit or none.
 -- From src/options.rs, src/extensions.rs and src/ser/mod.rs of ron 0.12.3. Assumes nothing.
-use Rattle.std.specs.Prelude.{ℕ, Bool, true, false, ◌||◌, List, [], Some, None, Option}
+use Rattle.std.specs.Prelude.{ℕ, Bool, true, false, ◌||◌, List, Some, None, Option}
 use Rattle.grammar.specs.Readings.{Extension, unwrap_newtypes, implicit_some, explicit_struct_names}
 
 -- a set of extensions

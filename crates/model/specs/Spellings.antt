@@ -1,6 +1,6 @@
 -- What an accepted call appends: the layout before an element, then its word; or what a frame is opened or closed with.
 -- From the methods of `Serializer` in src/ser/mod.rs of ron 0.12.3. Assumes nothing.
-use Rattle.std.specs.Prelude.{ℕ, Bool, cond, List, [], ◌∷◌, ◌++◌, codes}
+use Rattle.std.specs.Prelude.{ℕ, cond, List, [], ◌∷◌, ◌++◌, codes}
 use Rattle.chars.specs.Utf8.{decoded}
 use Rattle.words.specs.Escapes.{escaped_str}
 use Rattle.words.specs.Names.{identifier}

@@ -1,6 +1,6 @@
 -- What a document is at each moment, and what of it an element or a frame changes.
 -- After `Serializer` and `Compound` of src/ser/mod.rs of ron 0.12.3, with the open frames in one stack. Assumes nothing.
-use Rattle.std.specs.Prelude.{ℕ, ◌+◌, ◌-◌, min, Bool, true, false, List, [], ◌∷◌, Some, None, Option}
+use Rattle.std.specs.Prelude.{ℕ, ◌+◌, ◌-◌, min, Bool, List, [], ◌∷◌, Some, None, Option}
 use Rattle.model.specs.Settings.{Settings}
 use Rattle.model.specs.declared.kind.Kind.{Kind}
 

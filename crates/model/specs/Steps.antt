@@ -1,11 +1,11 @@
 -- What a request does to a document, and what it answers. A refused request changes nothing.
 -- After the methods of `Serializer` in src/ser/mod.rs of ron 0.12.3. Assumes nothing.
-use Rattle.std.specs.Prelude.{ℕ, suc, ◌+◌, ◌-◌, Bool, true, cond, List, [], ◌∷◌, ◌++◌, length, Option}
+use Rattle.std.specs.Prelude.{ℕ, suc, ◌+◌, ◌-◌, true, cond, List, ◌∷◌, ◌++◌, length, Option}
 use Rattle.std.specs.Option.{option_map}
 use Rattle.model.specs.Refusals.{unless}
 use Rattle.model.specs.Settings.{Settings, on}
 use Rattle.model.specs.Requests.{Ticket, Value, none, a_bool, an_integer, a_float, a_char, a_str, bytes, unit, unit_struct, unit_variant, Opening, kind_of, announced, Request, put, start, end, abandon, finish}
-use Rattle.model.specs.States.{Frame, Layout, Allowance, State, fresh, counted, below, taken, returned, touched}
+use Rattle.model.specs.States.{Allowance, State, fresh, counted, below, taken, returned, touched}
 use Rattle.model.specs.Heads.{silent}
 use Rattle.model.specs.Layouts.{entered, left}
 use Rattle.model.specs.Spellings.{appended}

@@ -1,6 +1,6 @@
 -- The laws that an implementation of `Output` or `Sink` gives along with its meaning, each with its proof:
 -- that taking piece after piece is taking them all, and that what each call keeps, several calls keep.
-use Rattle.std.specs.Prelude.{◌≡◌, ℕ, ◌+◌, List, [], ◌++◌, length, refl}
+use Rattle.std.specs.Prelude.{◌≡◌, ℕ, ◌+◌, List, ◌++◌, length, refl}
 use Rattle.std.proofs.Common.{append-nil, append_assoc, sym, ap, ◌∙◌, arith, length-append}
 use Rattle.output.specs.Puts.{Adds}
 use Rattle.output.specs.Sinks.{Steady, Appended}

@@ -1,5 +1,6 @@
 //! Where bytes go: an output takes pieces while there is room, and a sink keeps them as a text.
 #![tactic(auto)]
+
 ghost use Rattle.std.specs.Prelude.{◌≡◌, ℕ, ◌-◌, false, List, ◌++◌, length, is_ok, if◌then◌else◌, nat_le};
 ghost use Rattle.output.specs.Puts.{Adds, Puts};
 ghost use Rattle.output.specs.Sinks.{Steady, Appended};

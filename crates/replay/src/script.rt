@@ -52,10 +52,10 @@ impl Head {
 
     fn set_space(&mut self, word: &[u8]) -> bool {
         let (name, bytes) = split_field(word, b'=');
-        if name != b"space" {
+        if name != b"space".as_slice() {
             return false;
         }
-        if bytes == b"none" {
+        if bytes == b"none".as_slice() {
             self.space = None;
             return true;
         }
@@ -79,7 +79,7 @@ pub(crate) fn document_of(heap: Global, line: &[u8]) -> anyhow::Result<Document>
     let mut rest = line;
     while !rest.is_empty() {
         let (word, after) = split_field(rest, b' ');
-        if word == b"|" {
+        if word == b"|".as_slice() {
             let (call, more) = split_field(after, b' ');
             if !more.is_empty() {
                 return Err(anyhow!("more than one call"));

@@ -1,4 +1,4 @@
-use Rattle.std.proofs.Common.{◌≡◌, ℕ, ◌^◌, min, List, [], ◌∷◌, map, length, ap, ◌∙◌, subst, rules}
+use Rattle.std.proofs.Common.{ℕ, ◌^◌, min, List, [], ◌∷◌, map, length, ap, ◌∙◌, subst, rules}
 use Rattle.std.proofs.lemmas.List.{nil_from_length}
 use Rattle.batch_names.specs.Lines.{LinesRead, no_line, next_line}
 use Rattle.batch_names.specs.Tally.{outcome, Sums}

@@ -1,4 +1,4 @@
-use Rattle.std.proofs.Common.{◌≡◌, ◌<◌, length, rules}
+use Rattle.std.proofs.Common.{◌<◌, length, rules}
 use Rattle.inputs.proofs.Parting.{led_here, past_here}
 use Rattle.inputs.proofs.fields.strip_byte.Goals as goal
 

@@ -1,4 +1,4 @@
-use Rattle.std.proofs.Common.{◌≡◌, vec_items, sym, subst, rules}
+use Rattle.std.proofs.Common.{vec_items, sym, subst, rules}
 use Rattle.std.proofs.lemmas.List.{nil_from_length}
 use Rattle.inputs.specs.TableLines.{RangesRead, no_range, next_range}
 use Rattle.inputs.proofs.Cuts.{cut_shorter, not_empty}

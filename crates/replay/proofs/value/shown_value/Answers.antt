@@ -1,6 +1,6 @@
-use Rattle.std.proofs.Common.{◌∙◌, rules}
+use Rattle.std.proofs.Common.{◌∙◌}
 use Rattle.words.proofs.Measured.{refusal_is, shown_refused, shown_whole}
-use Rattle.replay.specs.Values.{value_text, value_refusal}
+use Rattle.replay.specs.Values.{value_refusal}
 use Rattle.replay.proofs.value.shown_value.Goals as goal
 
 pub returns-in_err-put_value : goal.returns-in_err-put_value
