@@ -8,8 +8,8 @@ ghost use Rattle.words.specs.Whole.{Whole, refused_or_short};
 ghost use Rattle.words.specs.Writes.{Writes};
 
 use chars::table::CharTable;
-use grammar::literals::literals_read_back;
 use grammar::no_text_has_two_readings;
+use grammar::read_back::literals_read_back;
 use output::buffer::{Buffer, text};
 use output::gauge::Gauge;
 use output::{Output, Sink};

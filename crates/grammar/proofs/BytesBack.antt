@@ -1,6 +1,6 @@
 -- Byte strings read back.
 use Rattle.std.proofs.Common.{◌≡◌, ℕ, ◌/◌, ◌%◌, ◌<◌, Bool, true, false, eqb, List, [], ◌∷◌, ◌++◌, Some, codes, sym, refl, ap, ◌∙◌, subst, arith}
-use Rattle.std.specs.List.{AllByRecursion as All}
+use Rattle.std.specs.List.{AllByRecursion}
 use Rattle.std.proofs.lemmas.Bool.{and_from, cond_both}
 use Rattle.std.proofs.lemmas.Str.{digit_value-digit_char}
 use Rattle.std.proofs.lemmas.Bool.Decides.{nat_tests}
@@ -61,7 +61,7 @@ byte_back b l =
         let a = printable_ascii b p in
         spells_as (spells_ascii (b ∷ []) (and_from (ascii b) true a refl)) (λ s r e. subst (λ z. BytePart s z r) (sym (ascii_encode b a)) (byte_bare e (not_special b n)))
 
-pub escaped_bytes_back : (starts continues : ℕ → Bool) (bs : List ℕ) → All (λ b. b < 256) bs → ReadsBack starts continues (escaped_byte_str bs) (a_byte_string bs)
+pub escaped_bytes_back : (starts continues : ℕ → Bool) (bs : List ℕ) → AllByRecursion (λ b. b < 256) bs → ReadsBack starts continues (escaped_byte_str bs) (a_byte_string bs)
 escaped_bytes_back starts continues bs h =
     let p = quoted_back (λ b. b < 256) byte_escape (λ b. b ∷ []) byte_back bs h in
     bytes_item starts continues bs _ (spells_as p (λ s r q. subst (λ z. Quoted BytePart s z r) (joined_one bs) q))
@@ -80,6 +80,6 @@ utf8_bytes_back starts continues bs u =
     (λ _. spells_as (raw_back (codes "br") cs refl d.0) (λ s r (s', e, f) k. (raw_bytes_rule, is_raw_bytes (longest_hashes cs) e f)))
     (bare_bytes_back starts continues cs d.0))
 
-pub plain_bytes_back : (starts continues : ℕ → Bool) (bs : List ℕ) → All (λ b. b < 256) bs → ReadsBack starts continues (unescaped_or_raw_byte_str bs) (a_byte_string bs)
+pub plain_bytes_back : (starts continues : ℕ → Bool) (bs : List ℕ) → AllByRecursion (λ b. b < 256) bs → ReadsBack starts continues (unescaped_or_raw_byte_str bs) (a_byte_string bs)
 plain_bytes_back starts continues bs h =
     cond_both (utf8 bs) _ _ (λ w. ReadsBack starts continues w (a_byte_string bs)) (utf8_bytes_back starts continues bs) (λ _. escaped_bytes_back starts continues bs h)

@@ -1,6 +1,6 @@
 -- Texts without escapes read back: quoted as they are, and raw between hashes.
 use Rattle.std.proofs.Common.{◌≡◌, ℕ, zero, suc, ◌<◌, ◌≤◌, Bool, true, false, cond, eqb, List, [], ◌∷◌, ◌++◌, replicate, None, codes, refl, ap, ◌∙◌, subst, append_assoc, arith}
-use Rattle.std.specs.List.{flat_map, AllByRecursion as All}
+use Rattle.std.specs.List.{flat_map, AllByRecursion}
 use Rattle.std.proofs.lemmas.Bool.{and_parts, and_right, or_parts, cond_both, lt-leb}
 use Rattle.chars.specs.Utf8.{scalar, scalars, encode, encodes, decoded}
 use Rattle.chars.proofs.Decoding.{encodes_decoded}
@@ -20,7 +20,7 @@ use Rattle.grammar.proofs.TextsBack.{quoted_back, joined_one, text_item}
 abbrev pub BareChar : ℕ → Type 0
 BareChar c = (scalar c ≡ true) × (special c ≡ false)
 
-pub all_bare : (cs : List ℕ) → scalars cs ≡ true → holds_quote cs ≡ false → All BareChar cs
+pub all_bare : (cs : List ℕ) → scalars cs ≡ true → holds_quote cs ≡ false → AllByRecursion BareChar cs
 all_bare [] h n = tt
 all_bare (c ∷ cs) h n =
     let p = and_parts (scalar c) (scalars cs) h in

@@ -1,6 +1,6 @@
 -- Characters and texts in quotes read back.
 use Rattle.std.proofs.Common.{◌≡◌, ℕ, ◌^◌, ◌<◌, Bool, true, false, eqb, List, [], ◌∷◌, ◌++◌, length, Some, None, codes, refl, ap, ◌∙◌, subst, append_assoc, arith}
-use Rattle.std.specs.List.{flat_map, AllByRecursion as All}
+use Rattle.std.specs.List.{flat_map, AllByRecursion}
 use Rattle.std.specs.Char.{digit_char}
 use Rattle.std.proofs.lemmas.Bool.{and_parts, and_from, cond_both, cond-true, eqb-true, le-leb}
 use Rattle.std.proofs.lemmas.Bool.Decides.{nat_tests}
@@ -36,7 +36,7 @@ character_back starts continues n h =
 
 -- parts in a row, and the closing quote: each is written by `write` and means what `mean` says
 module _ {Part : List ℕ → List ℕ → List ℕ → Type 0} (Fit : ℕ → Type 0) (write mean : ℕ → List ℕ) (part : (c : ℕ) → Fit c → Spells (λ s r. Part s (mean c) r) (write c)) where
-  pub quoted_back : (cs : List ℕ) → All Fit cs → Spells (λ s r. Quoted Part s (flat_map mean cs) r) (flat_map write cs ++ quote ∷ [])
+  pub quoted_back : (cs : List ℕ) → AllByRecursion Fit cs → Spells (λ s r. Quoted Part s (flat_map mean cs) r) (flat_map write cs ++ quote ∷ [])
   quoted_back [] h = spells_as (spells_ascii (quote ∷ []) refl) (λ s r e. quoted_end e)
   quoted_back (c ∷ cs) h =
       rw (append_assoc (write c) (flat_map write cs) (quote ∷ [])) (spells_then (part c h.0) (quoted_back cs h.1) (λ s s' r p q. quoted_part p q))
@@ -97,7 +97,7 @@ pub joined_one : (cs : List ℕ) → flat_map (λ c. c ∷ []) cs ≡ cs
 joined_one [] = refl
 joined_one (c ∷ cs) = ap (λ z. c ∷ z) (joined_one cs)
 
-all_scalars : (cs : List ℕ) → scalars cs ≡ true → All (λ c. scalar c ≡ true) cs
+all_scalars : (cs : List ℕ) → scalars cs ≡ true → AllByRecursion (λ c. scalar c ≡ true) cs
 all_scalars [] h = tt
 all_scalars (c ∷ cs) h = let p = and_parts (scalar c) (scalars cs) h in (p.0, all_scalars cs p.1)
 

@@ -1,7 +1,7 @@
 -- Literals read back: the bytes that are written for a value spell characters that read as that value, whatever may follow them.
 -- Assumes nothing.
 use Rattle.std.specs.Prelude.{◌≡◌, ℕ, ◌<◌, Bool, true, false, cond, ◌||◌, List, [], ◌∷◌, ◌++◌, ℤ, None, codes}
-use Rattle.std.specs.List.{AllByRecursion as All}
+use Rattle.std.specs.List.{AllByRecursion}
 use Rattle.chars.specs.Blanks.{among, blank}
 use Rattle.chars.specs.Tables.{letter, digit}
 use Rattle.chars.specs.Utf8.{scalars, encodes, decoded}
@@ -66,7 +66,7 @@ pub record LiteralsReadBack (starts continues shown : ℕ → Bool) : Type 0 whe
   pub escaped_texts : (s : List ℕ) → text_refusal s ≡ None → ReadsBack starts continues (escaped_str shown (decoded s)) (a_text (decoded s))
   pub plain_texts : (s : List ℕ) → text_refusal s ≡ None → ReadsBack starts continues (unescaped_or_raw_str (decoded s)) (a_text (decoded s))
   -- byte strings in the same two ways
-  pub escaped_byte_strings : (bs : List ℕ) → All (λ b. b < 256) bs → bytes_refusal bs ≡ None → ReadsBack starts continues (escaped_byte_str bs) (a_byte_string bs)
-  pub plain_byte_strings : (bs : List ℕ) → All (λ b. b < 256) bs → bytes_refusal bs ≡ None → ReadsBack starts continues (unescaped_or_raw_byte_str bs) (a_byte_string bs)
+  pub escaped_byte_strings : (bs : List ℕ) → AllByRecursion (λ b. b < 256) bs → bytes_refusal bs ≡ None → ReadsBack starts continues (escaped_byte_str bs) (a_byte_string bs)
+  pub plain_byte_strings : (bs : List ℕ) → AllByRecursion (λ b. b < 256) bs → bytes_refusal bs ≡ None → ReadsBack starts continues (unescaped_or_raw_byte_str bs) (a_byte_string bs)
   -- so a literal by itself is a text that reads as its tree
   pub alone : (literal : List ℕ) (t : Tree) → ReadsBack starts continues literal t → Reads starts continues literal t

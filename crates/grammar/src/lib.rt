@@ -6,7 +6,7 @@ ghost use Rattle.grammar.specs.Worked.{WorkedReadings};
 
 use chars::table::CharTable;
 
-pub mod literals;
+pub mod read_back;
 
 /// No text has two readings: whatever two trees the rules allow for a text are one tree, with every table of characters.
 pub fn no_text_has_two_readings<T: CharTable>(table: &T)

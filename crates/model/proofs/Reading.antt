@@ -1,10 +1,10 @@
 -- Every finished text reads as the tree of its accepted calls, and as no other.
 use Rattle.std.proofs.Common.{◌≡◌, ℕ, Bool, true, false, List, [], ◌∷◌, ◌++◌, Some, None, Option, sym, refl, ap, ◌∙◌, subst, ap₂, append-nil}
 use mathlib.Core.Path.{fun_ext}
-use Rattle.std.specs.List.{AllByRecursion as All}
+use Rattle.std.specs.List.{AllByRecursion}
 use Rattle.std.proofs.lemmas.Bool.{true≢false, false≢true}
 use Rattle.chars.specs.Tables.{Lawful}
-use Rattle.words.specs.declared.refusal.Refusal.{Refusal as Word-refusal}
+use Rattle.words.specs.declared.refusal.Refusal.{Refusal as WordRefusal}
 use Rattle.grammar.specs.Trees.{Tree}
 use Rattle.grammar.specs.Readings.{Reading, Reads}
 use Rattle.grammar.specs.ReadBack.{Spells}
@@ -32,7 +32,7 @@ use Rattle.model.proofs.Texts.{Ends, first_slot}
 use Rattle.model.proofs.Writing.{Written, value_written, opening_written, end_written}
 
 -- an argument that does not refuse the call is not refused
-not_refused : (o : Option Word-refusal) → argument o ≡ None → o ≡ None
+not_refused : (o : Option WordRefusal) → argument o ≡ None → o ≡ None
 not_refused None e = refl
 not_refused (Some x) e = absurd (some_is_not_none e)
 
@@ -102,7 +102,7 @@ begun_text table settings space None e x y c =
     record { laid = laid; written = first_slot table settings (header_heads settings laid) }
 
 -- every text on the way of a run
-texts : (table : Table) (laws : Lawful table.starts table.continues table.shown) (settings : Settings) (space : ℕ) (rs : List Request) → All Fits rs
+texts : (table : Table) (laws : Lawful table.starts table.continues table.shown) (settings : Settings) (space : ℕ) (rs : List Request) → AllByRecursion Fits rs
     → (after (begun table settings space) rs).closed ≡ false → TextedState (after (begun table settings space) rs) (accepted_from (begun table settings space) rs)
 texts table laws settings space [] fit c = begun_text table settings space (beginning_refusal settings space) refl _ _ c
 texts table laws settings space (r ∷ rs) fit c =

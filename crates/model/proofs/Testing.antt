@@ -7,7 +7,7 @@ use Rattle.chars.specs.Utf8.{utf8, decoded}
 use Rattle.words.specs.Names.{name}
 use Rattle.literals.specs.Floats.{float_text}
 use Rattle.words.specs.Refusals.{longest_argument, refused_unless as word_unless, first_refusal, text_refusal, name_refusal}
-use Rattle.words.specs.declared.refusal.Refusal.{Refusal as Word-refusal}
+use Rattle.words.specs.declared.refusal.Refusal.{Refusal as WordRefusal}
 use Rattle.words.specs.declared.refusal.Refusal.TheVariants as word
 use Rattle.model.specs.Refusals.{number, of_word, argument, first, refused_if, refused_unless, unless}
 use Rattle.model.specs.Requests.{Value, none, a_bool, an_integer, a_float, a_char, a_str, bytes, unit, unit_struct, unit_variant, Opening, some, newtype_struct, newtype_variant, seq, tuple, tuple_struct, tuple_variant}
@@ -57,17 +57,17 @@ never_unless e true x h q = some_is_not_none (sym q)
 never_unless e false x h q = eqb-false (number x) (number e) h (ap number (some_is q))
 
 -- the arguments are refused by numbers up to 10
-record Small (o : Option Word-refusal) : Type 0 where
+record Small (o : Option WordRefusal) : Type 0 where
   at_most_10 : (e : Refusal) → argument o ≡ Some e → number e ≤ 10
 
 small_none : Small None
 small_none = record { at_most_10 = λ e q. absurd (some_is_not_none (sym q)) }
 
-small_unless : (b : Bool) (w : Word-refusal) → number (of_word w) ≤ 10 → Small (word_unless b w)
+small_unless : (b : Bool) (w : WordRefusal) → number (of_word w) ≤ 10 → Small (word_unless b w)
 small_unless true w h = small_none
 small_unless false w h = record { at_most_10 = λ e q. omega (arith, h, ap number (some_is q)) }
 
-small_first : (a b : Option Word-refusal) → Small a → Small b → Small (first_refusal a b)
+small_first : (a b : Option WordRefusal) → Small a → Small b → Small (first_refusal a b)
 small_first None b h k = k
 small_first (Some w) b h k = h
 

@@ -2,7 +2,7 @@
 -- They hold with every lawful table of characters. Assumes nothing.
 use Rattle.std.specs.Prelude.{◌≡◌, ℕ, ◌-◌, ◌^◌, Bool, true, false, List, [], ◌∷◌, map, reverse, pos, Some, None, codes, Option}
 use Prim.Native.String.{String}
-use Rattle.std.specs.List.{AllByRecursion as All}
+use Rattle.std.specs.List.{AllByRecursion}
 use Rattle.chars.specs.Tables.{Lawful}
 use Rattle.model.specs.Refusals.{number}
 use Rattle.model.specs.Settings.{Extensions, PrettyConfig, Settings}
@@ -119,7 +119,7 @@ AllAccepted run = accepted run ≡ map call_of run.requests
 
 module _ (table : Table) (lawful : Lawful table.starts table.continues table.shown) where
   -- the run of requests, given in the order in which they are made, on a sink with this space
-  abbrev pub run_of : (space : ℕ) → Settings → (requests : List Request) → All Fits (reverse requests) → Run
+  abbrev pub run_of : (space : ℕ) → Settings → (requests : List Request) → AllByRecursion Fits (reverse requests) → Run
   run_of space settings requests fit = record {
     table = table;
     lawful = lawful;
@@ -132,14 +132,14 @@ module _ (table : Table) (lawful : Lawful table.starts table.continues table.sho
 
   -- in this space the requests are accepted, and finish after them, and this is the text
   pub record WritesIn (space : ℕ) (settings : Settings) (requests : List Request) (text : String) : Type 0 where
-    pub fit : All Fits (reverse requests)
+    pub fit : AllByRecursion Fits (reverse requests)
     pub all_accepted : AllAccepted (run_of space settings requests fit)
     pub finishes : Finishes (run_of space settings requests fit)
     pub written : text_of_run (run_of space settings requests fit) ≡ codes text
 
   -- in this space the requests are accepted, and one more is refused, by this number
   pub record RefusesIn (space : ℕ) (settings : Settings) (requests : List Request) (request : Request) (why : Refusal) (n : ℕ) : Type 0 where
-    pub fit : All Fits (reverse requests)
+    pub fit : AllByRecursion Fits (reverse requests)
     pub all_accepted : AllAccepted (run_of space settings requests fit)
     pub refused : refusal (reached (run_of space settings requests fit)) request ≡ Some why
     pub numbered : number why ≡ n

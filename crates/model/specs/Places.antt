@@ -2,7 +2,7 @@
 -- The limits are those of a controller: 256 frames, 65,535 elements of a frame. Assumes nothing.
 use Rattle.std.specs.Prelude.{ℕ, Bool, true, false, not, ◌&&◌, List, [], ◌∷◌, length, Some, None, Option, ◌==◌, nat_le, nat_lt}
 use Rattle.words.specs.Refusals.{first_refusal, text_refusal, name_refusal}
-use Rattle.words.specs.declared.refusal.Refusal.{Refusal as Word-refusal}
+use Rattle.words.specs.declared.refusal.Refusal.{Refusal as WordRefusal}
 use Rattle.literals.specs.Bytes.{bytes_refusal}
 use Rattle.literals.specs.Characters.{char_refusal}
 use Rattle.literals.specs.Floats.{float_refusal}
@@ -78,11 +78,11 @@ admission s t =
     (refused_unless (allowed s.frames s.allowance) ExceededRecursionLimit))))
 
 -- two names: the type's before the variant's
-abbrev pub names_refusal : Table → List ℕ → List ℕ → Option Word-refusal
+abbrev pub names_refusal : Table → List ℕ → List ℕ → Option WordRefusal
 names_refusal t name variant = first_refusal (name_refusal t.continues name) (name_refusal t.continues variant)
 
 -- the arguments of a value
-abbrev pub value_refusal : Table → Value → Option Word-refusal
+abbrev pub value_refusal : Table → Value → Option WordRefusal
 value_refusal t none = None
 value_refusal t (a_bool b) = None
 value_refusal t (an_integer type n) = None
@@ -95,7 +95,7 @@ value_refusal t (unit_struct name) = name_refusal t.continues name
 value_refusal t (unit_variant name variant) = names_refusal t name variant
 
 -- the arguments of an opening: its names, whether they are written or not
-abbrev pub opening_refusal : Table → Opening → Option Word-refusal
+abbrev pub opening_refusal : Table → Opening → Option WordRefusal
 opening_refusal t some = None
 opening_refusal t (newtype_struct name) = name_refusal t.continues name
 opening_refusal t (newtype_variant name variant) = names_refusal t name variant

@@ -2,7 +2,7 @@
 -- The numbers are those that users look up; 5 is that of a table of characters. Assumes nothing.
 use Rattle.std.specs.Prelude.{ℕ, Bool, cond, Some, None, Option}
 use Rattle.std.specs.Option.{option_map}
-use Rattle.words.specs.declared.refusal.Refusal.{Refusal as Word-refusal}
+use Rattle.words.specs.declared.refusal.Refusal.{Refusal as WordRefusal}
 use Rattle.words.specs.declared.refusal.Refusal.TheVariants as word
 use Rattle.model.specs.declared.refusal.Refusal.{Refusal}
 use Rattle.model.specs.declared.refusal.Refusal.TheVariants.{NewLineNotBlank, IndentorNotBlank, SeparatorNotBlank, LayoutTooLong, InvalidIdentifier, NotUtf8, NotScalar, NotFloat, TooLong, Filled, WrongTicket, EndedEmpty, Closed, Unfinished, ExceededRecursionLimit, TooManyFrames, TooManyElements, NoSpace}
@@ -28,7 +28,7 @@ number TooManyElements = 18
 number NoSpace = 19
 
 -- what refuses a word refuses the call that writes it, by the same number
-abbrev pub of_word : Word-refusal → Refusal
+abbrev pub of_word : WordRefusal → Refusal
 of_word word.InvalidIdentifier = InvalidIdentifier
 of_word word.NotUtf8 = NotUtf8
 of_word word.NotScalar = NotScalar
@@ -37,7 +37,7 @@ of_word word.TooLong = TooLong
 of_word word.NoSpace = NoSpace
 
 -- an argument's test as a test of the call
-abbrev pub argument : Option Word-refusal → Option Refusal
+abbrev pub argument : Option WordRefusal → Option Refusal
 argument o = option_map of_word o
 
 -- one test: refused where it does not hold

@@ -1,7 +1,7 @@
 -- What a document can be asked for: a value, an opening, an end, abandon and finish, each with its arguments and what it shows.
 -- One for each method of serde's `Serializer` that ron 0.12.3 has and that this writer takes. Assumes nothing.
 use Rattle.std.specs.Prelude.{ℕ, ◌<◌, Bool, List, ℤ, Some, None, codes, Option}
-use Rattle.std.specs.List.{AllByRecursion as All}
+use Rattle.std.specs.List.{AllByRecursion}
 use Rattle.literals.specs.declared.float.Width.{Width}
 use Rattle.model.specs.declared.kind.Kind.{Kind}
 use Rattle.model.specs.declared.kind.Kind.TheVariants as kinds
@@ -75,7 +75,7 @@ BytesFit (an_integer type n) = Unit {0}
 BytesFit (a_float width x) = Unit {0}
 BytesFit (a_char c) = Unit {0}
 BytesFit (a_str x) = Unit {0}
-BytesFit (bytes x) = All (λ b. b < 256) x
+BytesFit (bytes x) = AllByRecursion (λ b. b < 256) x
 BytesFit unit = Unit {0}
 BytesFit (unit_struct name) = Unit {0}
 BytesFit (unit_variant name variant) = Unit {0}

@@ -1,7 +1,7 @@
 -- Runs: a newly begun document meets requests one after another, and accepts or refuses each.
 -- Requests and calls stand in lists with the newest first. Assumes nothing.
 use Rattle.std.specs.Prelude.{ℕ, List, [], ◌∷◌, ◌++◌, length, drop}
-use Rattle.std.specs.List.{AllByRecursion as All}
+use Rattle.std.specs.List.{AllByRecursion}
 use Rattle.chars.specs.Tables.{Lawful}
 use Rattle.model.specs.Refusals.{unless}
 use Rattle.model.specs.Settings.{Settings, on, names, suffixed}
@@ -21,7 +21,7 @@ pub record Run : Type 0 where
   pub held : List ℕ
   pub space : ℕ
   pub requests : List Request
-  pub fit : All Fits requests
+  pub fit : AllByRecursion Fits requests
 
 -- the state after requests
 abbrev pub after : State → List Request → State

@@ -14,11 +14,11 @@ loop-rest-smaller g c = cut_shorter c.loop-rest.rest.now _ _ c.split_line.ensure
 pub loop-rest-preserved : goal.loop-rest-preserved
 loop-rest-preserved g c =
     let i = c.loop-rest.invariant in
-    let outcome-in : ℕ → List ℕ → _ = λ n. outcome (g.T.CharTable.starts c.args.table.now) (g.T.CharTable.continues c.args.table.now) (g.T.CharTable.shown c.args.table.now) (min n (2 ^ 30)) in
-    let e = c.in_ok-outcome.ensures ∙ ap (λ n. outcome-in n c.split_line.result.0.now) c.loop-rest.auto.memory in (
+    let outcome_in : ℕ → List ℕ → _ = λ n. outcome (g.T.CharTable.starts c.args.table.now) (g.T.CharTable.continues c.args.table.now) (g.T.CharTable.shown c.args.table.now) (min n (2 ^ 30)) in
+    let e = c.in_ok-outcome.ensures ∙ ap (λ n. outcome_in n c.split_line.result.0.now) c.loop-rest.auto.memory in (
       c.split_line.result.0.now ∷ i.0,
       next_line i.1 (not_empty c.loop-rest.rest.now c.loop-rest-test.ensures) c.split_line.ensures,
-      subst (λ o. Sums (o ∷ map (outcome-in (length c.args.memory.now)) i.0) c.add.new.self) e (c.add.ensures _ i.2),
+      subst (λ o. Sums (o ∷ map (outcome_in (length c.args.memory.now)) i.0) c.add.new.self) e (c.add.ensures _ i.2),
     )
 
 pub returns : goal.returns

@@ -6,47 +6,47 @@ use Rattle.model.proofs.examples.worked_documents.Goals as goal
 
 -- the characters of the names, by the laws of tables
 module _ {table : Table} (laws : Lawful table.starts table.continues table.shown) where
-  E-continues : table.continues 0x45 ≡ true
-  E-continues = laws.ascii_continues 0x45 (lit< tt)
+  E_continues : table.continues 0x45 ≡ true
+  E_continues = laws.ascii_continues 0x45 (lit< tt)
 
-  S-continues : table.continues 0x53 ≡ true
-  S-continues = laws.ascii_continues 0x53 (lit< tt)
+  S_continues : table.continues 0x53 ≡ true
+  S_continues = laws.ascii_continues 0x53 (lit< tt)
 
-  o-continues : table.continues 0x6F ≡ true
-  o-continues = laws.ascii_continues 0x6F (lit< tt)
+  o_continues : table.continues 0x6F ≡ true
+  o_continues = laws.ascii_continues 0x6F (lit< tt)
 
-  m-continues : table.continues 0x6D ≡ true
-  m-continues = laws.ascii_continues 0x6D (lit< tt)
+  m_continues : table.continues 0x6D ≡ true
+  m_continues = laws.ascii_continues 0x6D (lit< tt)
 
-  e-continues : table.continues 0x65 ≡ true
-  e-continues = laws.ascii_continues 0x65 (lit< tt)
+  e_continues : table.continues 0x65 ≡ true
+  e_continues = laws.ascii_continues 0x65 (lit< tt)
 
-  S-starts : table.starts 0x53 ≡ true
-  S-starts = laws.ascii_starts 0x53 (lit< tt)
+  S_starts : table.starts 0x53 ≡ true
+  S_starts = laws.ascii_starts 0x53 (lit< tt)
 
-  9-continues : table.continues 0x39 ≡ true
-  9-continues = laws.ascii_continues 0x39 (lit< tt)
+  9_continues : table.continues 0x39 ≡ true
+  9_continues = laws.ascii_continues 0x39 (lit< tt)
 
-  x-continues : table.continues 0x78 ≡ true
-  x-continues = laws.ascii_continues 0x78 (lit< tt)
+  x_continues : table.continues 0x78 ≡ true
+  x_continues = laws.ascii_continues 0x78 (lit< tt)
 
-  9-starts : table.starts 0x39 ≡ false
-  9-starts = laws.ascii_starts 0x39 (lit< tt)
+  9_starts : table.starts 0x39 ≡ false
+  9_starts = laws.ascii_starts 0x39 (lit< tt)
 
-  a-continues : table.continues 0x61 ≡ true
-  a-continues = laws.ascii_continues 0x61 (lit< tt)
+  a_continues : table.continues 0x61 ≡ true
+  a_continues = laws.ascii_continues 0x61 (lit< tt)
 
-  hyphen-continues : table.continues 0x2D ≡ false
-  hyphen-continues = laws.ascii_continues 0x2D (lit< tt)
+  hyphen_continues : table.continues 0x2D ≡ false
+  hyphen_continues = laws.ascii_continues 0x2D (lit< tt)
 
-  b-continues : table.continues 0x62 ≡ true
-  b-continues = laws.ascii_continues 0x62 (lit< tt)
+  b_continues : table.continues 0x62 ≡ true
+  b_continues = laws.ascii_continues 0x62 (lit< tt)
 
-  a-starts : table.starts 0x61 ≡ true
-  a-starts = laws.ascii_starts 0x61 (lit< tt)
+  a_starts : table.starts 0x61 ≡ true
+  a_starts = laws.ascii_starts 0x61 (lit< tt)
 
-  underscore-continues : table.continues 0x5F ≡ true
-  underscore-continues = laws.ascii_continues 0x5F (lit< tt)
+  underscore_continues : table.continues 0x5F ≡ true
+  underscore_continues = laws.ascii_continues 0x5F (lit< tt)
 
 -- the rest is computed
 pub returns : goal.returns
@@ -66,57 +66,57 @@ returns c table laws = record {
   reserved_name = (
     record {
       fit = (tt, tt);
-      all_accepted = rw (E-continues laws, S-continues laws, o-continues laws, m-continues laws, e-continues laws, S-starts laws);
-      finishes = rw (E-continues laws, S-continues laws, o-continues laws, m-continues laws, e-continues laws, S-starts laws);
-      written = rw (E-continues laws, S-continues laws, o-continues laws, m-continues laws, e-continues laws, S-starts laws);
+      all_accepted = rw (E_continues laws, S_continues laws, o_continues laws, m_continues laws, e_continues laws, S_starts laws);
+      finishes = rw (E_continues laws, S_continues laws, o_continues laws, m_continues laws, e_continues laws, S_starts laws);
+      written = rw (E_continues laws, S_continues laws, o_continues laws, m_continues laws, e_continues laws, S_starts laws);
     },
     record {
       fit = (tt, tt);
-      all_accepted = rw (S-continues laws, o-continues laws, m-continues laws, e-continues laws, S-starts laws);
-      finishes = rw (S-continues laws, o-continues laws, m-continues laws, e-continues laws, S-starts laws);
-      written = rw (S-continues laws, o-continues laws, m-continues laws, e-continues laws, S-starts laws);
+      all_accepted = rw (S_continues laws, o_continues laws, m_continues laws, e_continues laws, S_starts laws);
+      finishes = rw (S_continues laws, o_continues laws, m_continues laws, e_continues laws, S_starts laws);
+      written = rw (S_continues laws, o_continues laws, m_continues laws, e_continues laws, S_starts laws);
     },
   );
   digit_first = (
     record {
       fit = (tt, tt);
-      all_accepted = rw (E-continues laws, 9-continues laws, x-continues laws, 9-starts laws);
-      finishes = rw (E-continues laws, 9-continues laws, x-continues laws, 9-starts laws);
-      written = rw (E-continues laws, 9-continues laws, x-continues laws, 9-starts laws);
+      all_accepted = rw (E_continues laws, 9_continues laws, x_continues laws, 9_starts laws);
+      finishes = rw (E_continues laws, 9_continues laws, x_continues laws, 9_starts laws);
+      written = rw (E_continues laws, 9_continues laws, x_continues laws, 9_starts laws);
     },
     record {
       fit = (tt, tt);
-      all_accepted = rw (9-continues laws, x-continues laws, 9-starts laws);
-      finishes = rw (9-continues laws, x-continues laws, 9-starts laws);
-      written = rw (9-continues laws, x-continues laws, 9-starts laws);
+      all_accepted = rw (9_continues laws, x_continues laws, 9_starts laws);
+      finishes = rw (9_continues laws, x_continues laws, 9_starts laws);
+      written = rw (9_continues laws, x_continues laws, 9_starts laws);
     },
   );
   hyphen_inside = (
     record {
       fit = (tt, tt);
-      all_accepted = rw (E-continues laws, a-continues laws, hyphen-continues laws, b-continues laws, a-starts laws);
-      finishes = rw (E-continues laws, a-continues laws, hyphen-continues laws, b-continues laws, a-starts laws);
-      written = rw (E-continues laws, a-continues laws, hyphen-continues laws, b-continues laws, a-starts laws);
+      all_accepted = rw (E_continues laws, a_continues laws, hyphen_continues laws, b_continues laws, a_starts laws);
+      finishes = rw (E_continues laws, a_continues laws, hyphen_continues laws, b_continues laws, a_starts laws);
+      written = rw (E_continues laws, a_continues laws, hyphen_continues laws, b_continues laws, a_starts laws);
     },
     record {
       fit = (tt, tt);
-      all_accepted = rw (a-continues laws, hyphen-continues laws, b-continues laws, a-starts laws);
-      finishes = rw (a-continues laws, hyphen-continues laws, b-continues laws, a-starts laws);
-      written = rw (a-continues laws, hyphen-continues laws, b-continues laws, a-starts laws);
+      all_accepted = rw (a_continues laws, hyphen_continues laws, b_continues laws, a_starts laws);
+      finishes = rw (a_continues laws, hyphen_continues laws, b_continues laws, a_starts laws);
+      written = rw (a_continues laws, hyphen_continues laws, b_continues laws, a_starts laws);
     },
   );
   underscore = (
     record {
       fit = (tt, tt);
-      all_accepted = rw (E-continues laws, underscore-continues laws);
-      finishes = rw (E-continues laws, underscore-continues laws);
-      written = rw (E-continues laws, underscore-continues laws);
+      all_accepted = rw (E_continues laws, underscore_continues laws);
+      finishes = rw (E_continues laws, underscore_continues laws);
+      written = rw (E_continues laws, underscore_continues laws);
     },
     record {
       fit = (tt, tt);
-      all_accepted = rw (underscore-continues laws);
-      finishes = rw (underscore-continues laws);
-      written = rw (underscore-continues laws);
+      all_accepted = rw (underscore_continues laws);
+      finishes = rw (underscore_continues laws);
+      written = rw (underscore_continues laws);
     },
   );
   just_fits = record { fit = (tt, tt); all_accepted = refl; finishes = refl; written = refl };

@@ -3,8 +3,8 @@ use Rattle.output.specs.Pairs.{first_size, second_size, in_first, in_second, pai
 use Rattle.output.proofs.pair.Pair.into_parts.Goals as goal
 
 -- what the first memory, with a places, has of a text of u bytes, which has what does not fit in the second, with b
-of-all : (u a b l : ℕ) → l ≡ min u a + min (u - a) b → min u a ≡ min l a
-of-all u a b l e = omega arith
+of_all : (u a b l : ℕ) → l ≡ min u a + min (u - a) b → min u a ≡ min l a
+of_all u a b l e = omega arith
 
 pub returns : goal.returns
 returns c =
@@ -13,7 +13,7 @@ returns c =
     record {
       text = cc;
       len = cc;
-      cut = cc (of-all p.used (first_size p) (second_size p) (length (pair_text p)) all);
+      cut = cc (of_all p.used (first_size p) (second_size p) (length (pair_text p)) all);
       first_len = c.in_first-first_len.ensures;
       second_len = c.in_second-second_len.ensures;
       first = refl;
