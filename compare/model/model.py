@@ -1,9 +1,9 @@
 #!/usr/bin/env python3
 """The definitions of the writer as a plain program.
 
-Each function below has the name of a definition in crates/*/specs (with `_`
-for `-`) and is written clause by clause after it, file by file, so that the
-two can be read side by side. Bytes are `bytes`, characters a list of their
+Each function below has the name of a definition in crates/*/specs and is
+written clause by clause after it, file by file, so that the two can be read
+side by side. Bytes are `bytes`, characters a list of their
 numbers, a kind, a refusal or a constructor is its name, an Option is a value
 or None.
 
@@ -343,9 +343,9 @@ opening = {"square": b"[", "round": b"("}
 closing = {"square": b"]", "round": b")"}
 
 extension_name = {
-    "unwrap-newtypes": b"unwrap_newtypes",
-    "implicit-some": b"implicit_some",
-    "explicit-struct-names": b"explicit_struct_names",
+    "unwrap_newtypes": b"unwrap_newtypes",
+    "implicit_some": b"implicit_some",
+    "explicit_struct_names": b"explicit_struct_names",
 }
 
 # ---------------------------------------------------------------- model
@@ -408,7 +408,7 @@ def configured_names(config):
 
 
 def names(s):
-    return configured_names(s.config) or on(s, "explicit-struct-names")
+    return configured_names(s.config) or on(s, "explicit_struct_names")
 
 
 def suffixed(config):
@@ -429,12 +429,12 @@ class Ticket(NamedTuple):
 
 kind_of_name = {
     "some": "Some",
-    "newtype-struct": "NewtypeStruct",
-    "newtype-variant": "NewtypeVariant",
+    "newtype_struct": "NewtypeStruct",
+    "newtype_variant": "NewtypeVariant",
     "seq": "Seq",
     "tuple": "Tuple",
-    "tuple-struct": "TupleStruct",
-    "tuple-variant": "TupleVariant",
+    "tuple_struct": "TupleStruct",
+    "tuple_variant": "TupleVariant",
 }
 
 
@@ -443,7 +443,7 @@ def kind_of(o):
 
 
 def announced(o):
-    if o[0] in ("some", "newtype-struct", "newtype-variant"):
+    if o[0] in ("some", "newtype_struct", "newtype_variant"):
         return None
     return o[-1]
 
@@ -564,9 +564,9 @@ def header(defaults, config):
     if config is None:
         return b""
     return (
-        enabling(defaults, config, "unwrap-newtypes")
-        + enabling(defaults, config, "implicit-some")
-        + enabling(defaults, config, "explicit-struct-names")
+        enabling(defaults, config, "unwrap_newtypes")
+        + enabling(defaults, config, "implicit_some")
+        + enabling(defaults, config, "explicit_struct_names")
     )
 
 
@@ -611,9 +611,9 @@ def begun(t, s, space):
 
 def silent(on, k):
     if k == "Some":
-        return on("implicit-some")
+        return on("implicit_some")
     if k == "NewtypeStruct":
-        return on("unwrap-newtypes")
+        return on("unwrap_newtypes")
     return False
 
 
@@ -627,10 +627,10 @@ def if_named(names, name):
 
 def head(names, o):
     if o[0] == "some":
-        return ("some-head",)
-    if o[0] in ("newtype-struct", "tuple-struct"):
+        return ("some_head",)
+    if o[0] in ("newtype_struct", "tuple_struct"):
         return if_named(names, o[1])
-    if o[0] in ("newtype-variant", "tuple-variant"):
+    if o[0] in ("newtype_variant", "tuple_variant"):
         return ("named", decoded(o[2]))
     return ("headless",)
 
@@ -745,23 +745,23 @@ def value_bytes(t, s, depth, v):
     kind, *a = v
     if kind == "none":
         return none_bytes(depth)
-    if kind == "a-bool":
+    if kind == "a_bool":
         return b"true" if a[0] else b"false"
-    if kind == "an-integer":
+    if kind == "an_integer":
         return integer(a[1], suffixed(s.config), a[0].encode())
-    if kind == "a-float":
+    if kind == "a_float":
         return float_(suffixed(s.config), float_suffix[a[0]], a[1])
-    if kind == "a-char":
+    if kind == "a_char":
         return character(a[0])
-    if kind == "a-str":
+    if kind == "a_str":
         return escaped_str(t.shown, decoded(a[0])) if escaped(s.config) else unescaped_or_raw_str(decoded(a[0]))
     if kind == "bytes":
         return escaped_byte_str(a[0]) if escaped(s.config) else unescaped_or_raw_byte_str(a[0])
     if kind == "unit":
         return b"()"
-    if kind == "unit-struct":
+    if kind == "unit_struct":
         return identifier(t.starts, t.continues, decoded(a[0])) if names(s) else b"()"
-    if kind == "unit-variant":
+    if kind == "unit_variant":
         return identifier(t.starts, t.continues, decoded(a[1]))
 
 
@@ -857,25 +857,25 @@ def names_refusal(t, name, variant):
 
 def value_refusal(t, v):
     kind, *a = v
-    if kind == "a-float":
+    if kind == "a_float":
         return float_refusal(a[1])
-    if kind == "a-char":
+    if kind == "a_char":
         return char_refusal(a[0])
-    if kind == "a-str":
+    if kind == "a_str":
         return text_refusal(a[0])
     if kind == "bytes":
         return bytes_refusal(a[0])
-    if kind == "unit-struct":
+    if kind == "unit_struct":
         return name_refusal(t.continues, a[0])
-    if kind == "unit-variant":
+    if kind == "unit_variant":
         return names_refusal(t, a[0], a[1])
     return None
 
 
 def opening_refusal(t, o):
-    if o[0] in ("newtype-struct", "tuple-struct"):
+    if o[0] in ("newtype_struct", "tuple_struct"):
         return name_refusal(t.continues, o[1])
-    if o[0] in ("newtype-variant", "tuple-variant"):
+    if o[0] in ("newtype_variant", "tuple_variant"):
         return names_refusal(t, o[1], o[2])
     return None
 
@@ -1009,7 +1009,7 @@ def yield_(s, r):
 
 def refuse(s, r, e):
     if r[0] == "end" and not s.closed:
-        return ("handed-back", e, r[1])
+        return ("handed_back", e, r[1])
     return ("refused", e)
 
 
@@ -1042,7 +1042,7 @@ class Made(NamedTuple):
 
 def in_somes(n, t):
     for _ in range(n):
-        t = ("a-group", ("some-head",), [t])
+        t = ("a_group", ("some_head",), [t])
     return t
 
 
@@ -1055,7 +1055,7 @@ def silent_somes(on, held):
     return somes
 
 
-unit_tree = ("a-group", ("headless",), [])
+unit_tree = ("a_group", ("headless",), [])
 
 
 def codes(x):
@@ -1063,35 +1063,35 @@ def codes(x):
 
 
 def float_tree(x):
-    return ("a-number", codes(x)) if digit(x[0]) or x[0] == 0x2D else ("a-word", codes(x))
+    return ("a_number", codes(x)) if digit(x[0]) or x[0] == 0x2D else ("a_word", codes(x))
 
 
 def item(y, held, v):
     kind, *a = v
     if kind == "none":
-        return in_somes(silent_somes(y.on, held), ("a-word", codes(b"None")))
-    if kind == "a-bool":
-        return ("a-word", codes(b"true" if a[0] else b"false"))
-    if kind == "an-integer":
-        return ("a-number", codes(integer(a[1], y.suffixes, a[0].encode())))
-    if kind == "a-float":
+        return in_somes(silent_somes(y.on, held), ("a_word", codes(b"None")))
+    if kind == "a_bool":
+        return ("a_word", codes(b"true" if a[0] else b"false"))
+    if kind == "an_integer":
+        return ("a_number", codes(integer(a[1], y.suffixes, a[0].encode())))
+    if kind == "a_float":
         return float_tree(float_(y.suffixes, float_suffix[a[0]], a[1]))
-    if kind == "a-char":
-        return ("a-character", a[0])
-    if kind == "a-str":
-        return ("a-text", decoded(a[0]))
+    if kind == "a_char":
+        return ("a_character", a[0])
+    if kind == "a_str":
+        return ("a_text", decoded(a[0]))
     if kind == "bytes":
-        return ("a-byte-string", codes(a[0]))
+        return ("a_byte_string", codes(a[0]))
     if kind == "unit":
         return unit_tree
-    if kind == "unit-struct":
-        return ("a-name", decoded(a[0])) if y.names else unit_tree
-    if kind == "unit-variant":
-        return ("a-name", decoded(a[1]))
+    if kind == "unit_struct":
+        return ("a_name", decoded(a[0])) if y.names else unit_tree
+    if kind == "unit_variant":
+        return ("a_name", decoded(a[1]))
 
 
 def grouped(b, h, ts):
-    return ("a-list", ts) if b == "square" else ("a-group", h, ts)
+    return ("a_list", ts) if b == "square" else ("a_group", h, ts)
 
 
 def result(y, h):
@@ -1267,24 +1267,24 @@ class Reader:
         self.skip_blanks()
         if self.at("("):
             self.i += 1
-            return ("a-group", ("named", x), self.items(")"))
+            return ("a_group", ("named", x), self.items(")"))
         self.i = here
-        return ("a-name", x)
+        return ("a_name", x)
 
     def item(self):
         c = self.peek()
         if self.at('"'):
             self.i += 1
-            return ("a-text", self.quoted(False))
+            return ("a_text", self.quoted(False))
         if self.at("r#") and self.after_hashes() == 0x22:
             self.i += 1
-            return ("a-text", self.fenced())
+            return ("a_text", self.fenced())
         if self.at('b"'):
             self.i += 2
-            return ("a-byte-string", self.quoted(True))
+            return ("a_byte_string", self.quoted(True))
         if self.at("br#"):
             self.i += 2
-            return ("a-byte-string", list(encodes(self.fenced())))
+            return ("a_byte_string", list(encodes(self.fenced())))
         if self.at("r#"):
             self.i += 2
             raw = lambda c: raw_char(self.t.continues, c)
@@ -1299,23 +1299,23 @@ class Reader:
             c = self.peek()
             self.i += 1
             self.take("'")
-            return ("a-character", c)
+            return ("a_character", c)
         if self.at("["):
             self.i += 1
-            return ("a-list", self.items("]"))
+            return ("a_list", self.items("]"))
         if self.at("("):
             self.i += 1
-            return ("a-group", ("headless",), self.items(")"))
+            return ("a_group", ("headless",), self.items(")"))
         if digit(c) or c == 0x2D:
             number_char = lambda c: letter(c) or digit(c) or c in (0x2E, 0x2B, 0x2D)
-            return ("a-number", self.run(lambda c: True, number_char))
+            return ("a_number", self.run(lambda c: True, number_char))
         x = self.run(lambda c: first_char(self.t.starts, c), self.t.continues)
         if x == codes(b"Some"):
             self.skip_blanks()
             self.take("(")
-            return ("a-group", ("some-head",), self.items(")"))
+            return ("a_group", ("some_head",), self.items(")"))
         if reserved(x):
-            return ("a-word", x)
+            return ("a_word", x)
         return self.named(x)
 
     def after_hashes(self):
@@ -1362,7 +1362,7 @@ def read_str(word):
         raise Skip("hex")
 
 
-letters_of = {"U": "unwrap-newtypes", "I": "implicit-some", "E": "explicit-struct-names"}
+letters_of = {"U": "unwrap_newtypes", "I": "implicit_some", "E": "explicit_struct_names"}
 
 
 def read_settings(words):
@@ -1413,39 +1413,39 @@ def read_call(word):
     put = lambda *v: ("put", "here", v)
     start = lambda *o: ("start", "here", o)
     if key == "bool":
-        return put("a-bool", a[0] == "1")
+        return put("a_bool", a[0] == "1")
     if key in ("i8", "i16", "i32", "i64", "u8", "u16", "u32", "u64"):
-        return put("an-integer", key, int(a[0]))
+        return put("an_integer", key, int(a[0]))
     if key in ("f32", "f64"):
         if len(a) < 2:
             raise Skip("a float without text")
-        return put("a-float", key.upper(), a[1].encode())
+        return put("a_float", key.upper(), a[1].encode())
     if key == "char":
-        return put("a-char", int(a[0], 16))
+        return put("a_char", int(a[0], 16))
     if key == "str":
-        return put("a-str", read_str(a[0]))
+        return put("a_str", read_str(a[0]))
     if key == "bytes":
         return put("bytes", read_str(a[0]))
     if key in ("none", "unit"):
         return put(key)
     if key == "ustruct":
-        return put("unit-struct", read_str(a[0]))
+        return put("unit_struct", read_str(a[0]))
     if key == "uvar":
-        return put("unit-variant", read_str(a[0]), read_str(a[1]))
+        return put("unit_variant", read_str(a[0]), read_str(a[1]))
     if key == "some":
         return start("some")
     if key == "ntstruct":
-        return start("newtype-struct", read_str(a[0]))
+        return start("newtype_struct", read_str(a[0]))
     if key == "ntvar":
-        return start("newtype-variant", read_str(a[0]), read_str(a[1]))
+        return start("newtype_variant", read_str(a[0]), read_str(a[1]))
     if key == "seq":
         return start("seq", None if a[0] == "?" else int(a[0]))
     if key == "tup":
         return start("tuple", int(a[0]))
     if key == "tstruct":
-        return start("tuple-struct", read_str(a[0]), int(a[1]))
+        return start("tuple_struct", read_str(a[0]), int(a[1]))
     if key == "tvar":
-        return start("tuple-variant", read_str(a[0]), read_str(a[1]), int(a[2]))
+        return start("tuple_variant", read_str(a[0]), read_str(a[1]), int(a[2]))
     if key == "end":
         return ("end", "here")
     if key in ("abandon", "finish"):
@@ -1502,7 +1502,7 @@ def run_line(table, line, check):
             if reads(table, s.text) != tree:
                 raise AssertionError("another reading: " + line)
         s, a = next_and_answer(s, r)
-        if a[0] in ("refused", "handed-back"):
+        if a[0] in ("refused", "handed_back"):
             return "err %d %d %s %s" % (number[a[1]], len(calls), hexed(s.text), ",".join(map(str, lens)))
         if a[0] == "finished":
             least = "-" if a[2] is None else a[2]
@@ -1522,7 +1522,7 @@ def trace_line(table, line):
         s, a = next_and_answer(s, r)
         words = [str(number[w]) + " " + w if w in number else str(w) for w in a]
         out.append("  %-60s %s %s" % (str(call_of(r)), " ".join(words), s.text[len(before_text) :] or ""))
-        if a[0] not in ("refused", "handed-back"):
+        if a[0] not in ("refused", "handed_back"):
             calls.append(call_of(r))
     out.append("  text: " + s.text.decode("utf-8", "replace"))
     out.append("  state: closed %s, frames %s, filled %s, %s, depth %d, %s, space %d" % (

@@ -1,4 +1,4 @@
--- The text of a buffer over lent memory, `buffer-text`, and how many bytes it can still take, `buffer-space`.
+-- The text of a buffer over lent memory, `buffer_text`, and how many bytes it can still take, `buffer_space`.
 -- `Keeps` says what of the memory no call changes.
 use Rattle.std.specs.Prelude.{◌≡◌, ℕ, ◌-◌, ◌^◌, ◌≤◌, min, List, length, take, slice_index}
 use Rattle.output.specs.declared.buffer.Buffer.{Buffer}

@@ -12,11 +12,11 @@ use Rattle.literals.specs.Floats.{float, float_refusal}
 use Rattle.literals.specs.Integers.{integer}
 use Rattle.replay.specs.declared.value.Settings.{Settings}
 use Rattle.replay.specs.declared.value.Value.{Value}
-use Rattle.replay.specs.declared.value.Value.TheVariants.{Bool as of-bool, I8, I16, I32, I64, U8, U16, U32, U64, F32, F64, Char, Str, Bytes, Unit, UnitStruct, UnitVariant}
+use Rattle.replay.specs.declared.value.Value.TheVariants.{Bool as of_bool, I8, I16, I32, I64, U8, U16, U32, U64, F32, F64, Char, Str, Bytes, Unit, UnitStruct, UnitVariant}
 
 module _ (starts continues shown : ℕ → Bool) (settings : Settings) where
   abbrev pub value_text : Value → List ℕ
-  value_text (of-bool b) = cond b (codes "true") (codes "false")
+  value_text (of_bool b) = cond b (codes "true") (codes "false")
   value_text (I8 n) = integer n settings.number_suffixes (codes "i8")
   value_text (I16 n) = integer n settings.number_suffixes (codes "i16")
   value_text (I32 n) = integer n settings.number_suffixes (codes "i32")
@@ -36,7 +36,7 @@ module _ (starts continues shown : ℕ → Bool) (settings : Settings) where
 
   -- names are checked whether they are written or not, the type's before the variant's
   abbrev pub value_refusal : Value → Option Refusal
-  value_refusal (of-bool b) = None
+  value_refusal (of_bool b) = None
   value_refusal (I8 n) = None
   value_refusal (I16 n) = None
   value_refusal (I32 n) = None
