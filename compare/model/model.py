@@ -1,11 +1,11 @@
 #!/usr/bin/env python3
 """The definitions of the writer as a plain program.
 
-Each function below has the name of a definition in crates/*/specs and is
-written clause by clause after it, file by file, so that the two can be read
-side by side. Bytes are `bytes`, characters a list of their
-numbers, a kind, a refusal or a constructor is its name, an Option is a value
-or None.
+Each function below has the name of a definition in crates/*/specs (but for a
+few that Python's own words or the order of lists ask for) and is written clause
+by clause after it, file by file, so that the two can be read side by side.
+Bytes are `bytes`, characters a list of their numbers, a kind, a refusal or a
+constructor is its name, an Option is a value or None.
 
     model.py TABLE < script > results     the results of a script's lines
     model.py --trace TABLE < script       every answer by itself, for reading
