@@ -1,7 +1,6 @@
-pub mod Answering
 pub mod Checking
 pub mod Decoding
 pub mod HighBytes
+pub mod Finding
 mod InOrder
-pub mod Searching
 mod Sequences

@@ -1,6 +1,7 @@
 -- The ASCII table keeps the laws of tables.
 -- The proof stands here since the table's implementation names it. Assumes nothing.
-use Rattle.std.specs.Prelude.{◌≡◌, ℕ, Bool, true, false, not, ◌&&◌, List, [], ◌∷◌, ◌==◌, refl}
+use Rattle.std.specs.Prelude.{◌≡◌, ℕ, Bool, true, false, not, List, [], ◌∷◌, ◌==◌, refl}
+use Rattle.std.specs.List.{list_all}
 use Rattle.std.proofs.Common.{⊎_elim, ap, ◌∙◌}
 use Rattle.std.proofs.lemmas.Bool.{or_left, or_cases, and_parts, not-true, eqb-true, false≢true}
 use Rattle.chars.specs.Blanks.{among, blanks}
@@ -8,8 +9,7 @@ use Rattle.chars.specs.Tables.{Lawful, letter, digit, word, printable}
 
 -- no character of a list is in a set
 abbrev pub none_in : (ℕ → Bool) → List ℕ → Bool
-none_in p [] = true
-none_in p (d ∷ ds) = not (p d) && none_in p ds
+none_in p = list_all (λ d. not (p d))
 
 pub not_in : (p : ℕ → Bool) (ds : List ℕ) (c : ℕ) → none_in p ds ≡ true → among ds c ≡ true → p c ≡ false
 not_in p [] c h k = absurd (false≢true k)

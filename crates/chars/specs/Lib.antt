@@ -4,7 +4,7 @@ pub mod Cursor
 pub mod Encoding
 pub mod RangeChecks
 pub mod Ranges
-pub mod RangesLaws
 pub mod Searches
 pub mod Tables
+pub mod Texts
 pub mod Utf8

@@ -5,4 +5,5 @@ pub mod blank;
 pub mod encoding;
 pub mod ranges;
 pub mod table;
+pub mod text;
 pub mod utf8;

@@ -1,16 +1,18 @@
 //! The table that is made of a list of ranges of characters.
-ghost use Rattle.std.specs.Prelude.{◌≡◌, Ok, Err};
+ghost use Rattle.std.specs.Prelude.{◌≡◌, Bool, Ok, Err};
 ghost use Rattle.chars.specs.AsciiLaws.{none_in};
+ghost use Rattle.chars.specs.Blanks.{blanks};
 ghost use Rattle.chars.specs.RangeChecks.{agreeing, classed, fits, gap, good};
-ghost use Rattle.chars.specs.Ranges.{IsTable, holds, whole};
-ghost use Rattle.chars.specs.RangesLaws.{table_lawful};
-ghost use Rattle.chars.specs.Searches.{Means, named, search, table_continues, table_shown, table_starts};
+ghost use Rattle.chars.specs.Ranges.{IsTable, starting, continuing, showing, holds, whole, in_set};
 
-use crate::blank::is_whitespace_char;
+use crate::blank::BLANKS;
 use crate::table::{Ascii, CharTable};
+use std::cmp::Ordering;
+use std::error::Error;
+use std::fmt;
 
 /// The characters from the first to the last, both counted, and which sets all of them are in.
-#[derive(Clone, Copy)]
+#[derive(Clone, Copy, PartialEq, Eq, Debug)]
 pub struct Range {
     /// The number of the first character.
     pub first: u32,
@@ -24,25 +26,21 @@ pub struct Range {
     pub shown: bool,
 }
 
-/// The table of a list of ranges, which the caller lends. Only `Ranges::new` makes one, so that the list is a table.
+/// The table of a list of ranges, which the caller lends.
 #[derive(Clone, Copy)]
 pub struct Ranges<'a> {
-    // In order and apart.
     ranges: &'a [Range],
+    ghost is_table: { IsTable ranges.now },
 }
 
 /// The refusal of a list of ranges that is no table.
-#[derive(Clone, Copy)]
+#[derive(Clone, Copy, PartialEq, Eq, Debug)]
 pub struct BadTable;
 
 const BAD_TABLE: u8 = 5;
 
 // At most so many ranges are a table.
 const MOST: usize = 4096;
-
-const BLANKS: [u32; 11] = [
-    0x20, 0x09, 0x0A, 0x0B, 0x0C, 0x0D, 0x85, 0x200E, 0x200F, 0x2028, 0x2029,
-];
 
 impl BadTable {
     /// The refusal's number.
@@ -53,11 +51,25 @@ impl BadTable {
     }
 }
 
+impl fmt::Display for BadTable {
+    fn fmt<W: fmt::Write>(&self, f: &mut fmt::Formatter<W>) -> fmt::Result {
+        write!(
+            f,
+            "refused {}: the ranges make no character table",
+            self.number()
+        )
+    }
+}
+
+impl Error for BadTable {}
+
 impl<'a> Ranges<'a> {
+    ghost use Rattle.chars.specs.Searches.{Means, found};
+
     /// The table of these ranges. Refused unless they are at most 4,096, of scalar values alone, in order and apart, and keep
     /// the laws of tables: what begins a name may go on with it, ASCII is in the sets of the ASCII table, and no blank is in a name.
     pub fn new(ranges: &'a [Range]) -> Result<Ranges<'a>, BadTable>
-        ensures { elim result [ Ok t ↦ IsTable ranges.now × Means t.ranges.now ranges.now | Err _ ↦ (IsTable ranges.now → ⊥) ] }
+        ensures { elim result [ Ok t ↦ IsTable ranges.now × Means t ranges.now | Err _ ↦ (IsTable ranges.now → ⊥) ] }
     {
         if is_good(ranges) {
             Ok(Ranges { ranges })
@@ -65,25 +77,30 @@ impl<'a> Ranges<'a> {
             Err(BadTable)
         }
     }
+
+    // The range that holds the character.
+    fn find(&self, c: char) -> Option<Range>
+        ensures { (p : Range → Bool) → in_set p self.now.ranges.now c ≡ found p result }
+    {
+        let at = self.ranges.binary_search_by(|r| r.place(c)).ok()?;
+        Some(self.ranges[at])
+    }
 }
 
 impl<'a> CharTable for Ranges<'a> {
-    ghost starts = { λ t c. table_starts t.ranges.now c };
+    ghost starts = { λ t c. in_set starting t.ranges.now c };
 
-    ghost continues = { λ t c. table_continues t.ranges.now c };
+    ghost continues = { λ t c. in_set continuing t.ranges.now c };
 
-    ghost shown = { λ t c. table_shown t.ranges.now c };
+    ghost shown = { λ t c. in_set showing t.ranges.now c };
 
-    ghost lawful = { λ t. table_lawful t.ranges.now };
+    ghost lawful = { λ t. t.is_table.lawful };
 
     fn is_xid_start(&self, c: char) -> bool {
         if c.is_ascii() {
             Ascii.is_xid_start(c)
         } else {
-            match find(self.ranges, c) {
-                Some(r) => r.start && is_named(r, c),
-                None => false,
-            }
+            self.find(c).is_some_and(|r| r.start)
         }
     }
 
@@ -91,10 +108,7 @@ impl<'a> CharTable for Ranges<'a> {
         if c.is_ascii() {
             Ascii.is_xid_continue(c)
         } else {
-            match find(self.ranges, c) {
-                Some(r) => is_named(r, c),
-                None => false,
-            }
+            self.find(c).is_some_and(|r| r.continues)
         }
     }
 
@@ -102,19 +116,80 @@ impl<'a> CharTable for Ranges<'a> {
         if c.is_ascii() {
             Ascii.is_shown(c)
         } else {
-            match find(self.ranges, c) {
-                Some(r) => r.shown,
-                None => false,
-            }
+            self.find(c).is_some_and(|r| r.shown)
         }
     }
 }
 
-// Whether a name may go on with a character of the range. No blank is in a name, whatever the ranges say.
-fn is_named(r: Range, c: char) -> bool
-    ensures { result ≡ named c r }
-{
-    r.continues && !is_whitespace_char(c)
+impl Range {
+    ghost use Rattle.chars.specs.Searches.{place};
+
+    fn holds(self, c: u32) -> bool
+        ensures { result ≡ holds self c }
+    {
+        self.first <= c && c <= self.last
+    }
+
+    // Whether all of the range stands before the character, or holds it, or stands behind it.
+    fn place(self, c: char) -> Ordering
+        ensures { result ≡ place c self }
+    {
+        if self.last < u32::from(c) {
+            Ordering::Less
+        } else if u32::from(c) < self.first {
+            Ordering::Greater
+        } else {
+            Ordering::Equal
+        }
+    }
+
+    // Whether the range may stand in a table in which everything below `from` is told already.
+    fn is_fit(self, from: u32) -> bool
+        ensures { result ≡ fits from self }
+    {
+        from <= self.first
+            && self.is_whole()
+            && (!self.start || self.continues)
+            && is_gap(from, self.first)
+            && self.is_classed()
+            && (!self.continues || self.holds_no_blank())
+    }
+
+    // Whether the range has a first and a last character, and scalar values alone.
+    fn is_whole(self) -> bool
+        ensures { result ≡ whole self }
+    {
+        self.first <= self.last
+            && (self.last <= 0xD7FF || 0xE000 <= self.first && self.last <= 0x10FFFF)
+    }
+
+    // Whether the characters of ASCII in the range are in just its sets.
+    fn is_classed(self) -> bool
+        ensures { result ≡ classed self }
+    {
+        for c in self.first..=self.last.min(0x7F) {
+            if !self.is_agreeing(c as u8) {
+                return false;
+            }
+        }
+        true
+    }
+
+    // Whether the character of ASCII is in just the sets that the range is in.
+    fn is_agreeing(self, c: u8) -> bool
+        ensures { result ≡ agreeing self c }
+    {
+        let c = char::from(c);
+        self.start == Ascii.is_xid_start(c)
+            && self.continues == Ascii.is_xid_continue(c)
+            && self.shown == Ascii.is_shown(c)
+    }
+
+    fn holds_no_blank(self) -> bool
+        ensures { result ≡ none_in (holds self) blanks }
+    {
+        BLANKS.iter().all(|c| !self.holds(u32::from(*c)))
+    }
 }
 
 // Whether the ranges make a table: one pass, which keeps the number up to which everything is told.
@@ -126,7 +201,7 @@ fn is_good(ranges: &[Range]) -> bool
     }
     let mut from = 0;
     for r in ranges {
-        if !is_fit(from, *r) {
+        if !r.is_fit(from) {
             return false;
         }
         from = r.last + 1;
@@ -134,88 +209,9 @@ fn is_good(ranges: &[Range]) -> bool
     is_gap(from, 0x80)
 }
 
-// Whether the range may stand in a table in which everything below `from` is told already.
-fn is_fit(from: u32, r: Range) -> bool
-    ensures { result ≡ fits from r }
-{
-    from <= r.first
-        && is_whole(r)
-        && (!r.start || r.continues)
-        && is_gap(from, r.first)
-        && is_classed(r)
-        && (!r.continues || holds_none(r, &BLANKS))
-}
-
-// Whether the range has a first and a last character, and scalar values alone.
-fn is_whole(r: Range) -> bool
-    ensures { result ≡ whole r }
-{
-    r.first <= r.last && (r.last <= 0xD7FF || 0xE000 <= r.first && r.last <= 0x10FFFF)
-}
-
 // Whether ASCII has nothing printable from `from` on and below `to`.
 fn is_gap(from: u32, to: u32) -> bool
     ensures { result ≡ gap from to }
 {
     to <= from || to <= 0x20 || 0x7E < from
-}
-
-// Whether the characters of ASCII in the range are in just its sets.
-fn is_classed(r: Range) -> bool
-    ensures { result ≡ classed r }
-{
-    for c in r.first..=r.last.min(0x7F) {
-        if !is_agreeing(r, c as u8) {
-            return false;
-        }
-    }
-    true
-}
-
-// Whether the character of ASCII is in just the sets that the range is in.
-fn is_agreeing(r: Range, c: u8) -> bool
-    ensures { result ≡ agreeing r c }
-{
-    let c = char::from(c);
-    r.start == Ascii.is_xid_start(c)
-        && r.continues == Ascii.is_xid_continue(c)
-        && r.shown == Ascii.is_shown(c)
-}
-
-// Whether none of the characters is in the range.
-fn holds_none(r: Range, chars: &[u32]) -> bool
-    ensures { result ≡ none_in (holds r) chars.now }
-{
-    for c in chars {
-        if holds_char(r, *c) {
-            return false;
-        }
-    }
-    true
-}
-
-fn holds_char(r: Range, c: u32) -> bool
-    ensures { result ≡ holds r c }
-{
-    r.first <= c && c <= r.last
-}
-
-// The range that holds the character, looked for by halves.
-fn find(ranges: &[Range], c: char) -> Option<Range>
-    ensures { result ≡ search ranges.now c }
-{
-    let c = u32::from(c);
-    let mut left = ranges;
-    while !left.is_empty() {
-        let middle = left.len() / 2;
-        let r = left[middle];
-        if c < r.first {
-            left = &left[..middle];
-        } else if r.last < c {
-            left = &left[middle + 1..];
-        } else {
-            return Some(r);
-        }
-    }
-    None
 }

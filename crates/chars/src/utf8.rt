@@ -1,17 +1,13 @@
 //! Strict UTF-8, as RFC 3629 has it: a cursor that hands out the scalar values of bytes.
 ghost use Rattle.std.specs.Prelude.{◌≡◌, length, if◌then◌else◌, Some, None};
 ghost use Rattle.chars.specs.Cursor.{left, position, Steps};
-ghost use Rattle.chars.specs.Utf8.{scalar, tail, two_bytes, three_bytes, four_bytes, of_two, of_three, of_four, Front, MalformedAt, DecodingIsExact};
+ghost use Rattle.chars.specs.Utf8.{scalar, tail, two_bytes, three_bytes, four_bytes, of_two, of_three, of_four, Front, DecodingIsExact};
 
-/// What a cursor finds at its place.
-#[derive(Clone, Copy)]
-pub enum Step {
-    /// The next scalar value.
-    Scalar(char),
-    /// No scalar value begins here, at this many bytes from the first.
-    Malformed(usize),
-    /// All bytes have been read.
-    End,
+/// Bytes are not UTF-8.
+#[derive(Clone, Copy, PartialEq, Eq, Debug)]
+pub struct Malformed {
+    /// The place of the first byte at which no scalar value begins.
+    pub at: usize,
 }
 
 /// A cursor over bytes, which hands out the scalar values that they spell.
@@ -49,31 +45,20 @@ impl<'a> Scalars<'a> {
         self.rest
     }
 
-    /// Reads the next scalar value and passes over its bytes. At malformed bytes and at the end the cursor stays.
-    pub fn step(&mut self) -> Step
+    /// Reads the next scalar value, if there is one more, and passes over its bytes. At malformed bytes and at the end
+    /// the cursor stays.
+    pub fn step(&mut self) -> Result<Option<char>, Malformed>
         ensures { Steps self.old result self.new }
     {
         match front(self.rest) {
             Some((c, width)) => {
                 self.rest = &self.rest[width..];
-                Step::Scalar(c)
+                Ok(Some(c))
             }
-            None if self.rest.is_empty() => Step::End,
-            None => Step::Malformed(self.position()),
-        }
-    }
-}
-
-/// Where bytes are not UTF-8: the place of the first byte at which no scalar value begins. `None` where they are UTF-8.
-pub fn malformed_at(bytes: &[u8]) -> Option<usize>
-    ensures { MalformedAt bytes.now result }
-{
-    let mut cursor = Scalars::new(bytes);
-    loop {
-        match cursor.step() {
-            Step::Scalar(_) => {}
-            Step::Malformed(at) => return Some(at),
-            Step::End => return None,
+            None if self.rest.is_empty() => Ok(None),
+            None => Err(Malformed {
+                at: self.position(),
+            }),
         }
     }
 }
@@ -125,14 +110,11 @@ fn is_four(a: u8, b: u8, c: u8, d: u8) -> bool
 fn spelled(code: u32, width: usize) -> Option<(char, usize)>
     ensures { result ≡ (if scalar code then Some (code, width) else None) }
 {
-    match char::from_u32(code) {
-        Some(c) => Some((c, width)),
-        None => None,
-    }
+    char::from_u32(code).map(|c| (c, width))
 }
 
 // The scalar value that the bytes begin with, and how many bytes it has.
-fn front(bytes: &[u8]) -> Option<(char, usize)>
+pub(crate) fn front(bytes: &[u8]) -> Option<(char, usize)>
     ensures { Front bytes.now result }
 {
     match bytes {

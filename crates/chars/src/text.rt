@@ -1,0 +1,45 @@
+//! Text: bytes that are known to be UTF-8.
+ghost use Rattle.std.specs.Prelude.{◌≡◌, true};
+ghost use Rattle.chars.specs.Utf8.{utf8};
+
+use crate::utf8::{Malformed, Scalars, front};
+
+/// Bytes that are UTF-8. Only `Text::new` makes them of bytes, so that whoever has a text need not check it again.
+#[derive(Clone, Copy)]
+pub struct Text<'a> {
+    bytes: &'a [u8],
+    ghost is_utf8: { utf8 bytes.now ≡ true },
+}
+
+impl<'a> Text<'a> {
+    ghost use Rattle.chars.specs.Texts.{text_bytes, Checked, SplitsFirst};
+
+    /// The text of the bytes, or where they are not UTF-8.
+    pub fn new(bytes: &'a [u8]) -> Result<Text<'a>, Malformed>
+        ensures { Checked bytes.now result }
+    {
+        let mut cursor = Scalars::new(bytes);
+        while let Some(_) = cursor.step()? {}
+        Ok(Text { bytes })
+    }
+
+    /// The bytes of the text.
+    pub fn as_bytes(&self) -> &'a [u8]
+        ensures { result.now ≡ text_bytes self.now }
+    {
+        self.bytes
+    }
+
+    /// The first character and the text behind it, unless the text is empty.
+    pub fn split_first(&self) -> Option<(char, Text<'a>)>
+        ensures { SplitsFirst self.now result }
+    {
+        let (c, width) = front(self.bytes)?;
+        Some((
+            c,
+            Text {
+                bytes: &self.bytes[width..],
+            },
+        ))
+    }
+}
