@@ -287,11 +287,6 @@ decoded_past s r c h e u = ap decoded e ∙ ap (λ o. unwrap_or o []) (decode_pa
 pub utf8_broken : (s : List ℕ) → 0 < length s → Front s None → utf8 s ≡ false
 utf8_broken s l f = ap is_some (front_none_decode s l f)
 
--- where no scalar value is in front, bytes that are UTF-8 have come to their end
-pub empty_text : (s : List ℕ) → utf8 s ≡ true → Front s None → s ≡ []
-empty_text [] u f = refl
-empty_text (a ∷ s) u f = absurd (both_ways _ (utf8_broken (a ∷ s) (omega arith) f) u)
-
 pub encodes_decoded : (s : List ℕ) → utf8 s ≡ true → (scalars (decoded s) ≡ true) × (encodes (decoded s) ≡ s)
 encodes_decoded s u = step (decode s) refl u
   where
@@ -302,3 +297,8 @@ encodes_decoded s u = step (decode s) refl u
 pub decode_nil : decode [] ≡ Some []
 unfolding decode
 decode_nil = refl
+
+-- where no scalar value is in front, bytes that are UTF-8 have come to their end
+pub empty_text : (s : List ℕ) → utf8 s ≡ true → Front s None → (s ≡ []) × (decoded s ≡ [])
+empty_text [] u f = (refl, ap (λ o. unwrap_or o []) decode_nil)
+empty_text (a ∷ s) u f = absurd (both_ways _ (utf8_broken (a ∷ s) (omega arith) f) u)

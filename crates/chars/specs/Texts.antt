@@ -1,6 +1,6 @@
 -- The bytes and the characters of a text; what it is to check that bytes are UTF-8, and to take the first character off a text.
 -- Assumes nothing.
-use Rattle.std.specs.Prelude.{◌≡◌, ℕ, true, List, [], ◌++◌, Some, None, Ok, Err, Option, Result}
+use Rattle.std.specs.Prelude.{◌≡◌, ℕ, true, List, [], ◌∷◌, ◌++◌, Some, None, Ok, Err, Option, Result}
 use Rattle.chars.specs.Utf8.{scalar, encode, decoded, MalformedAt}
 use Rattle.chars.specs.declared.text.Text.{Text}
 use Rattle.chars.specs.declared.utf8.Malformed.{Malformed}
@@ -16,7 +16,7 @@ abbrev pub Checked : List ℕ → Result Text Malformed → Type 0
 Checked s (Ok t) = MalformedAt s None × (text_bytes t ≡ s)
 Checked s (Err e) = MalformedAt s (Some e.at)
 
--- a text that is not empty is its first character's bytes and the text behind them
+-- a text that is not empty is its first character and the text behind it, in bytes and in characters
 abbrev pub SplitsFirst : Text → Option (ℕ × Text) → Type 0
-SplitsFirst t None = text_bytes t ≡ []
-SplitsFirst t (Some p) = (scalar p.0 ≡ true) × (text_bytes t ≡ encode p.0 ++ text_bytes p.1)
+SplitsFirst t None = (text_bytes t ≡ []) × (characters t ≡ [])
+SplitsFirst t (Some p) = (scalar p.0 ≡ true) × (text_bytes t ≡ encode p.0 ++ text_bytes p.1) × (characters t ≡ p.0 ∷ characters p.1)

@@ -1,5 +1,5 @@
 //! Text: bytes that are known to be UTF-8.
-ghost use Rattle.std.specs.Prelude.{◌≡◌, true};
+ghost use Rattle.std.specs.Prelude.{◌≡◌, ◌<◌, true, length, IfSome};
 ghost use Rattle.chars.specs.Utf8.{utf8};
 
 use crate::utf8::{Malformed, Scalars, front};
@@ -32,7 +32,8 @@ impl<'a> Text<'a> {
 
     /// The first character and the text behind it, unless the text is empty.
     pub fn split_first(&self) -> Option<(char, Text<'a>)>
-        ensures { SplitsFirst self.now result }
+        ensures value { SplitsFirst self.now result }
+        ensures shorter { IfSome result (λ p. length (text_bytes p.1) < length (text_bytes self.now)) }
     {
         let (c, width) = front(self.bytes)?;
         Some((

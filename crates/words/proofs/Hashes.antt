@@ -1,7 +1,9 @@
 -- Hashes and quotes in the bytes of a text are those in its characters.
 use Rattle.std.proofs.Common.{◌≡◌, ℕ, suc, ◌+◌, ◌-◌, ◌<◌, ◌≤◌, max, true, false, cond, ◌||◌, eqb, List, [], ◌∷◌, ◌++◌, length, get_or, drop, replicate, sym, refl, ap, ◌∙◌, ⊎_elim, arith}
 use Rattle.std.proofs.lemmas.List.{drop_more, drop_all}
-use Rattle.std.proofs.lemmas.Bool.{ne_eqb, eq-eqb, and_parts, or_left}
+use Rattle.std.proofs.lemmas.Bool.{ne_eqb, eq-eqb, and_parts}
+use Rattle.chars.specs.Texts.{characters, text_bytes}
+use Rattle.chars.specs.declared.text.Text.{Text}
 use Rattle.chars.specs.Utf8.{scalar, scalars, encodes, utf8, decoded}
 use Rattle.chars.proofs.Decoding.{encodes_decoded}
 use Rattle.chars.proofs.HighBytes.{High, encode_parts}
@@ -69,22 +71,11 @@ form_is s u =
     ∙ ap (λ t. cond t (0x72 ∷ fenced (longest_hashes (encodes cs)) (encodes cs)) (quoted (encodes cs))) (holds_encodes cs d.0)
     ∙ ap (λ n. cond (holds_quote cs) (0x72 ∷ fenced n (encodes cs)) (quoted (encodes cs))) (longest_encodes cs d.0)
 
-pub raw_is : (s : List ℕ) → utf8 s ≡ true → true ≡ holds_quote s → 0x72 ∷ fenced (longest_hashes s) s ≡ unescaped_or_raw_str (decoded s)
-raw_is s u h = ap (λ t. cond t (0x72 ∷ fenced (longest_hashes s) s) (quoted s)) h ∙ form_is s u
+pub raw_is : (t : Text) (s : List ℕ) → s ≡ text_bytes t → true ≡ holds_quote s → 0x72 ∷ fenced (longest_hashes s) s ≡ unescaped_or_raw_str (characters t)
+raw_is t s e h = ap (λ b. cond b (0x72 ∷ fenced (longest_hashes s) s) (quoted s)) h ∙ form_is s (ap utf8 e ∙ t.is_utf8) ∙ ap (λ z. unescaped_or_raw_str (decoded z)) e
 
-pub quoted_is : (s : List ℕ) → utf8 s ≡ true → false ≡ holds_quote s → quoted s ≡ unescaped_or_raw_str (decoded s)
-quoted_is s u h = ap (λ t. cond t (0x72 ∷ fenced (longest_hashes s) s) (quoted s)) h ∙ form_is s u
-
--- looking for a quote: found here, not here, and nowhere
-module _ (s : List ℕ) (i : ℕ) where
-  pub holds_here : i < length s → (eqb (get_or s i 0) quote || eqb (get_or s i 0) backslash) ≡ true → holds_quote (drop i s) ≡ true
-  holds_here l h = ap holds_quote (drop_more s i 0 l) ∙ or_left (eqb (get_or s i 0) quote || eqb (get_or s i 0) backslash) (holds_quote (drop (i + 1) s)) h
-
-  pub holds_behind : i < length s → (get_or s i 0 ≡ quote → ⊥) → (get_or s i 0 ≡ backslash → ⊥) → holds_quote (drop i s) ≡ holds_quote (drop (i + 1) s)
-  holds_behind l n m = ap holds_quote (drop_more s i 0 l) ∙ holds_other (get_or s i 0) (drop (i + 1) s) n m
-
-  pub holds_nowhere : length s ≤ i → holds_quote (drop i s) ≡ false
-  holds_nowhere l = ap holds_quote (drop_all i s l)
+pub quoted_is : (t : Text) (s : List ℕ) → s ≡ text_bytes t → false ≡ holds_quote s → quoted s ≡ unescaped_or_raw_str (characters t)
+quoted_is t s e h = ap (λ b. cond b (0x72 ∷ fenced (longest_hashes s) s) (quoted s)) h ∙ form_is s (ap utf8 e ∙ t.is_utf8) ∙ ap (λ z. unescaped_or_raw_str (decoded z)) e
 
 -- counting: the longest run of a text whose first i bytes are counted, where `longest` is the longest run so far
 -- and `run` the one that goes on at i

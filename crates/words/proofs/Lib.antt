@@ -4,5 +4,4 @@ mod Naming
 mod Numbers
 mod Reserved
 mod Runs
-mod TextOf
 pub mod Writing

@@ -1,9 +1,11 @@
 -- Names, by their bytes.
-use Rattle.std.proofs.Common.{◌≡◌, ℕ, ◌<◌, Bool, true, false, not, ◌&&◌, List, [], ◌∷◌, ◌++◌, length, Some, None, Ok, Option, unwrap_or, sym, refl, ap, ◌∙◌, ap₂, arith}
+use Rattle.std.proofs.Common.{◌≡◌, ℕ, ◌<◌, Bool, true, false, not, ◌&&◌, List, [], ◌∷◌, length, Some, None, Ok, Option, unwrap_or, sym, refl, ap, ◌∙◌, ap₂, arith}
 use Rattle.std.proofs.lemmas.List.{nil_from_length}
-use Rattle.chars.specs.Utf8.{scalar, encode, encodes, utf8, decoded}
-use Rattle.chars.proofs.Decoding.{encodes_decoded, utf8_past, decoded_past, decode_nil}
-use Rattle.words.specs.Classes.{all, raw_char, text_of}
+use Rattle.chars.specs.Texts.{characters, text_bytes}
+use Rattle.chars.specs.Utf8.{encodes, utf8, decoded}
+use Rattle.chars.specs.declared.text.Text.{Text}
+use Rattle.chars.proofs.Decoding.{encodes_decoded, decode_nil}
+use Rattle.words.specs.Classes.{all, raw_char}
 use Rattle.words.specs.Names.{reserved, name, first_char, bare, form, formed, identifier}
 use Rattle.words.specs.Refusals.{refused_unless, first_refusal, text_refusal, name_refusal, unless}
 use Rattle.words.specs.declared.name.Form.{Form}
@@ -11,36 +13,24 @@ use Rattle.words.specs.declared.refusal.Refusal.{Refusal}
 use Rattle.words.proofs.Reserved.{reserved_decoded}
 
 -- no bytes, no name
-pub name_none : (continues : ℕ → Bool) (s : List ℕ) → length s ≡ 0 → name continues (decoded s) ≡ false
-name_none continues s e = ap (λ z. name continues (decoded z)) (nil_from_length s e) ∙ ap (λ o. name continues (unwrap_or o [])) decode_nil
+pub name_none : (continues : ℕ → Bool) (t : Text) → length (text_bytes t) ≡ 0 → name continues (characters t) ≡ false
+name_none continues t e = ap (λ z. name continues (decoded z)) (nil_from_length (text_bytes t) e) ∙ ap (λ o. name continues (unwrap_or o [])) decode_nil
 
 -- else raw characters make a name
-pub name_some : (continues : ℕ → Bool) (s : List ℕ) → utf8 s ≡ true → 0 < length s → text_of (raw_char continues) s ≡ name continues (decoded s)
-name_some continues s u l = ap (λ t. t && all (raw_char continues) (decoded s)) u ∙ step (decoded s) (encodes_decoded s u).1
+pub name_some : (continues : ℕ → Bool) (t : Text) → 0 < length (text_bytes t) → all (raw_char continues) (characters t) ≡ name continues (characters t)
+name_some continues t l = step (characters t) (encodes_decoded (text_bytes t) t.is_utf8).1
   where
-    step : (cs : List ℕ) → encodes cs ≡ s → all (raw_char continues) cs ≡ name continues cs
+    step : (cs : List ℕ) → encodes cs ≡ text_bytes t → all (raw_char continues) cs ≡ name continues cs
     step [] e = absurd (omega (arith, ap length e))
     step (c ∷ cs) e = refl
 
--- a bare name, by its first character and the rest: what each test tells
-pub bare_none : (starts continues : ℕ → Bool) (s : List ℕ) → s ≡ [] → bare starts continues (decoded s) ≡ false
-bare_none starts continues s e = ap (λ z. bare starts continues (decoded z)) e ∙ ap (λ o. bare starts continues (unwrap_or o [])) decode_nil
-
-module _ (starts continues : ℕ → Bool) (s rest : List ℕ) (c : ℕ) (u : utf8 s ≡ true) (h : scalar c ≡ true) (e : s ≡ encode c ++ rest) where
-  bare_is : (first_char starts c && text_of continues rest && not (reserved s)) ≡ bare starts continues (decoded s)
-  bare_is =
-      ap (λ t. first_char starts c && (t && all continues (decoded rest)) && not (reserved s)) (sym (utf8_past s rest c h e) ∙ u)
-      ∙ ap (λ t. first_char starts c && all continues (decoded rest) && not t) (reserved_decoded s u ∙ ap reserved (decoded_past s rest c h e u))
-      ∙ ap (bare starts continues) (sym (decoded_past s rest c h e u))
-
-  pub bare_first : false ≡ first_char starts c → false ≡ bare starts continues (decoded s)
-  bare_first p = ap (λ t. t && text_of continues rest && not (reserved s)) p ∙ bare_is
-
-  pub bare_rest : true ≡ first_char starts c → false ≡ text_of continues rest → false ≡ bare starts continues (decoded s)
-  bare_rest p q = ap₂ (λ (a b : Bool). a && b && not (reserved s)) p q ∙ bare_is
-
-  pub bare_word : true ≡ first_char starts c → true ≡ text_of continues rest → not (reserved s) ≡ bare starts continues (decoded s)
-  bare_word p q = ap₂ (λ (a b : Bool). a && b && not (reserved s)) p q ∙ bare_is
+-- a name that is begun by a first character and goes on as it should is bare unless it is reserved
+pub bare_word : (starts continues : ℕ → Bool) (t : Text) (c : ℕ) (cs : List ℕ) → characters t ≡ c ∷ cs → first_char starts c ≡ true → all continues cs ≡ true
+    → not (reserved (text_bytes t)) ≡ bare starts continues (characters t)
+bare_word starts continues t c cs e p q =
+    ap not (reserved_decoded (text_bytes t) t.is_utf8 ∙ ap reserved e)
+    ∙ sym (ap₂ (λ (a b : Bool). a && b && not (reserved (c ∷ cs))) p q)
+    ∙ sym (ap (bare starts continues) e)
 
 -- what an accepted name tells
 accepted : {A : Type 0} (o : Option Refusal) (x y : A) → Ok x ≡ unless o y → (o ≡ None) × (x ≡ y)

@@ -1,14 +1,14 @@
 -- Classes of characters: those that stand for themselves in an escaped text, those that go on in a bare name, and those of a name behind `r#`.
 -- `shown` and `continues` are the table's sets. Assumes nothing.
-use Rattle.std.specs.Prelude.{ℕ, Bool, true, not, ◌&&◌, ◌||◌, List, [], ◌∷◌, ◌==◌}
+use Rattle.std.specs.Prelude.{ℕ, Bool, not, ◌&&◌, ◌||◌, List, ◌==◌}
+use Rattle.std.specs.List.{list_all}
 use Rattle.chars.specs.Utf8.{utf8, decoded}
 use Rattle.words.specs.declared.class.Class.{Class}
 use Rattle.words.specs.declared.class.Class.TheVariants.{Plain, Continue, Raw}
 
 -- every one of a list is in the set
 abbrev pub all : (ℕ → Bool) → List ℕ → Bool
-all p [] = true
-all p (c ∷ cs) = p c && all p cs
+all = list_all
 
 -- both quotes and the backslash
 abbrev pub quoting : ℕ → Bool

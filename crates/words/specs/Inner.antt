@@ -1,8 +1,8 @@
 -- What the contracts of private functions speak of. No public contract needs it.
 -- Assumes nothing.
-use Rattle.std.specs.Prelude.{◌≡◌, ℕ, Bool, true, false, cond, List, [], ◌∷◌, ◌++◌, take, drop, codes, ◌==◌}
-use Rattle.chars.specs.Utf8.{encode, utf8, decoded}
-use Rattle.words.specs.Escapes.{backslash, code, escapes}
+use Rattle.std.specs.Prelude.{ℕ, Bool, false, cond, List, [], ◌∷◌, codes, ◌==◌}
+use Rattle.chars.specs.Utf8.{encode}
+use Rattle.words.specs.Escapes.{backslash, code}
 use Rattle.words.specs.Names.{same, one_of}
 use Rattle.words.specs.declared.text.Escape.{Escape}
 use Rattle.words.specs.declared.text.Escape.TheVariants.{Plain, Short, Code}
@@ -12,11 +12,6 @@ abbrev pub written : Escape → ℕ → List ℕ
 written Plain c = encode c
 written (Short b) c = backslash ∷ b ∷ []
 written Code c = code c
-
--- the first n bytes of a text are escaped by standing as they are
-abbrev pub PlainFront : (ℕ → Bool) → List ℕ → ℕ → Type 0
-PlainFront shown s n =
-    utf8 s ≡ true → (utf8 (drop n s) ≡ true) × (escapes shown (decoded s) ≡ take n s ++ escapes shown (decoded (drop n s)))
 
 -- what is behind the first character of a reserved word
 abbrev pub ends_none_or_nan : List ℕ → Bool

@@ -1,6 +1,7 @@
 -- Text without escapes: quoted as it is, or raw between hashes where a quote or a backslash would end or change it.
 -- Assumes nothing.
-use Rattle.std.specs.Prelude.{ℕ, suc, max, Bool, false, cond, ◌||◌, List, [], ◌∷◌, ◌++◌, replicate, ◌==◌}
+use Rattle.std.specs.Prelude.{ℕ, suc, max, Bool, cond, ◌||◌, List, [], ◌∷◌, ◌++◌, replicate, ◌==◌}
+use Rattle.std.specs.List.{list_any}
 use Rattle.chars.specs.Utf8.{encodes}
 use Rattle.words.specs.Escapes.{quote, backslash}
 
@@ -19,8 +20,7 @@ longest_hashes (c ∷ cs) = max (leading_hashes (c ∷ cs)) (longest_hashes cs)
 
 -- a double quote or a backslash stands in the list
 abbrev pub holds_quote : List ℕ → Bool
-holds_quote [] = false
-holds_quote (c ∷ cs) = (c == quote || c == backslash) || holds_quote cs
+holds_quote = list_any (λ c. c == quote || c == backslash)
 
 -- bytes in double quotes
 abbrev pub quoted : List ℕ → List ℕ

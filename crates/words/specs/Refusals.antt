@@ -1,7 +1,9 @@
 -- Why a word is refused, by number, and in which order the arguments are tested.
 -- Assumes nothing.
-use Rattle.std.specs.Prelude.{ℕ, Bool, cond, List, length, Some, None, Ok, Err, Option, Result, nat_le}
+use Rattle.std.specs.Prelude.{◌≡◌, ℕ, Bool, cond, List, length, Some, None, Ok, Err, Option, Result, nat_le}
+use Rattle.chars.specs.Texts.{text_bytes}
 use Rattle.chars.specs.Utf8.{utf8, decoded}
+use Rattle.chars.specs.declared.text.Text.{Text}
 use Rattle.words.specs.Names.{name}
 use Rattle.words.specs.declared.refusal.Refusal.{Refusal}
 use Rattle.words.specs.declared.refusal.Refusal.TheVariants.{InvalidIdentifier, NotUtf8, NotScalar, NotFloat, TooLong, NoSpace}
@@ -39,3 +41,13 @@ name_refusal continues s = first_refusal (text_refusal s) (refused_unless (name 
 abbrev pub unless : {A : Type 0} → Option Refusal → A → Result A Refusal
 unless None x = Ok x
 unless (Some e) x = Err e
+
+-- the text of an argument, unless it is refused
+abbrev pub IsText : List ℕ → Result Text Refusal → Type 0
+IsText s (Ok t) = (text_refusal s ≡ None) × (text_bytes t ≡ s)
+IsText s (Err e) = text_refusal s ≡ Some e
+
+-- the text of a name, unless it is refused
+abbrev pub IsName : (ℕ → Bool) → List ℕ → Result Text Refusal → Type 0
+IsName continues s (Ok t) = (name_refusal continues s ≡ None) × (text_bytes t ≡ s)
+IsName continues s (Err e) = name_refusal continues s ≡ Some e

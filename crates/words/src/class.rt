@@ -1,12 +1,13 @@
 //! Classes of characters, and texts that are of one class throughout.
 ghost use Rattle.std.specs.Prelude.{◌≡◌};
-ghost use Rattle.words.specs.Classes.{in_class, text_of};
+ghost use Rattle.chars.specs.Texts.{characters};
+ghost use Rattle.words.specs.Classes.{all, in_class, text_of};
 
 use chars::table::CharTable;
-use chars::utf8::{Scalars, Step};
+use chars::text::Text;
 
 /// A class of characters, by what they may be in a RON text.
-#[derive(Clone, Copy)]
+#[derive(Clone, Copy, PartialEq, Eq, Debug)]
 pub enum Class {
     /// Stands for itself in an escaped text.
     Plain,
@@ -16,31 +17,36 @@ pub enum Class {
     Raw,
 }
 
-// Whether a character is of the class.
-fn is_in<T: CharTable>(table: &T, class: Class, c: char) -> bool
-    ensures { result ≡ in_class (T.CharTable.continues table.now) (T.CharTable.shown table.now) class c }
-{
-    match class {
-        Class::Plain => table.is_shown(c) && !matches!(c, '"' | '\'' | '\\'),
-        Class::Continue => table.is_xid_continue(c),
-        Class::Raw => table.is_xid_continue(c) || matches!(c, '.' | '+' | '-'),
+impl Class {
+    // Whether a character is of the class.
+    fn holds<T: CharTable>(self, table: &T, c: char) -> bool
+        ensures { result ≡ in_class (T.continues table.now) (T.shown table.now) self c }
+    {
+        match self {
+            Class::Plain => table.is_shown(c) && !matches!(c, '"' | '\'' | '\\'),
+            Class::Continue => table.is_xid_continue(c),
+            Class::Raw => table.is_xid_continue(c) || matches!(c, '.' | '+' | '-'),
+        }
     }
 }
 
 /// Whether bytes are UTF-8, and all of their characters of one class.
 pub fn is_text_of<T: CharTable>(table: &T, class: Class, text: &[u8]) -> bool
-    ensures { result ≡ text_of (in_class (T.CharTable.continues table.now) (T.CharTable.shown table.now) class) text.now }
+    ensures { result ≡ text_of (in_class (T.continues table.now) (T.shown table.now) class) text.now }
 {
-    let mut cursor = Scalars::new(text);
-    loop {
-        match cursor.step() {
-            Step::Scalar(c) => {
-                if !is_in(table, class, c) {
-                    return false;
-                }
-            }
-            Step::Malformed(_) => return false,
-            Step::End => return true,
+    Text::new(text).is_ok_and(|text| is_all_of(table, class, text))
+}
+
+// Whether all characters of a text are of one class.
+pub(crate) fn is_all_of<T: CharTable>(table: &T, class: Class, text: Text) -> bool
+    ensures { result ≡ all (in_class (T.continues table.now) (T.shown table.now) class) (characters text.entry) }
+{
+    let mut rest = text;
+    while let Some((c, after)) = rest.split_first() {
+        if !class.holds(table, c) {
+            return false;
         }
+        rest = after;
     }
+    true
 }

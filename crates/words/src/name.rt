@@ -1,16 +1,17 @@
 //! Names, bare or behind `r#`.
-ghost use Rattle.std.specs.Prelude.{◌≡◌, true, ◌++◌, is_ok};
-ghost use Rattle.chars.specs.Utf8.{utf8, decoded};
+ghost use Rattle.std.specs.Prelude.{◌≡◌, ◌++◌, is_ok};
+ghost use Rattle.chars.specs.Texts.{characters};
+ghost use Rattle.chars.specs.Utf8.{decoded};
 ghost use Rattle.output.specs.Puts.{Puts};
 ghost use Rattle.words.specs.Inner.{reserved_from, ends_none_or_nan, ends_inf};
 ghost use Rattle.words.specs.Names.{reserved, name, first_char, bare, form, formed, identifier};
-ghost use Rattle.words.specs.Refusals.{unless, name_refusal};
+ghost use Rattle.words.specs.Refusals.{unless, name_refusal, IsName};
 ghost use Rattle.words.specs.Writes.{Writes};
 
-use crate::class::{Class, is_text_of};
+use crate::class::{Class, is_all_of};
 use crate::refusal::{Refusal, check_text};
 use chars::table::CharTable;
-use chars::utf8::{Scalars, Step};
+use chars::text::Text;
 use output::{Full, Output};
 
 /// How a name stands in a RON text.
@@ -24,24 +25,28 @@ pub enum Form {
 
 /// Accepts a name: bytes that are not empty, and of continue characters, `.`, `+` and `-`.
 pub fn validate_identifier<T: CharTable>(table: &T, name: &[u8]) -> Result<(), Refusal>
-    ensures { result ≡ unless (name_refusal (T.CharTable.continues table.now) name.now) tt }
+    ensures { result ≡ unless (name_refusal (T.continues table.now) name.now) tt }
 {
-    check_text(name)?;
-    if is_name(table, name) {
-        Ok(())
+    check_name(table, name)?;
+    Ok(())
+}
+
+// The text of a name.
+fn check_name<'a, T: CharTable>(table: &T, name: &'a [u8]) -> Result<Text<'a>, Refusal>
+    ensures { IsName (T.continues table.now) name.now result }
+{
+    let text = check_text(name)?;
+    if is_name(table, text) {
+        Ok(text)
     } else {
         Err(Refusal::InvalidIdentifier)
     }
 }
 
-fn is_name<T: CharTable>(table: &T, text: &[u8]) -> bool
-    requires { utf8 text.now ≡ true }
-    ensures { result ≡ name (T.CharTable.continues table.now) (decoded text.now) }
+fn is_name<T: CharTable>(table: &T, text: Text) -> bool
+    ensures { result ≡ name (T.continues table.now) (characters text.entry) }
 {
-    if text.is_empty() {
-        return false;
-    }
-    is_text_of(table, Class::Raw, text)
+    !text.as_bytes().is_empty() && is_all_of(table, Class::Raw, text)
 }
 
 // The words that mean something else than a name.
@@ -80,38 +85,31 @@ fn is_end_of_inf(rest: &[u8]) -> bool
 }
 
 // Whether a name stands as it is: begun by an underscore or a start character, and not reserved.
-fn is_bare<T: CharTable>(table: &T, name: &[u8]) -> bool
-    requires { utf8 name.now ≡ true }
-    ensures { result ≡ bare (T.CharTable.starts table.now) (T.CharTable.continues table.now) (decoded name.now) }
+fn is_bare<T: CharTable>(table: &T, name: Text) -> bool
+    ensures { result ≡ bare (T.starts table.now) (T.continues table.now) (characters name.entry) }
 {
-    let mut cursor = Scalars::new(name);
-    match cursor.step() {
-        Step::Scalar(c) => {
-            if !is_first(table, c) {
-                return false;
-            }
-            if !is_text_of(table, Class::Continue, cursor.rest()) {
-                return false;
-            }
-            !is_reserved(name)
+    match name.split_first() {
+        Some((c, rest)) => {
+            is_first(table, c)
+                && is_all_of(table, Class::Continue, rest)
+                && !is_reserved(name.as_bytes())
         }
-        Step::End => false,
-        Step::Malformed(_) => unreachable(),
+        None => false,
     }
 }
 
 fn is_first<T: CharTable>(table: &T, c: char) -> bool
-    ensures { result ≡ first_char (T.CharTable.starts table.now) c }
+    ensures { result ≡ first_char (T.starts table.now) c }
 {
     c == '_' || table.is_xid_start(c)
 }
 
 /// How a name stands, or why it is none.
 pub fn identifier_form<T: CharTable>(table: &T, name: &[u8]) -> Result<Form, Refusal>
-    ensures { result ≡ unless (name_refusal (T.CharTable.continues table.now) name.now) (form (T.CharTable.starts table.now) (T.CharTable.continues table.now) (decoded name.now)) }
+    ensures { result ≡ unless (name_refusal (T.continues table.now) name.now) (form (T.starts table.now) (T.continues table.now) (decoded name.now)) }
 {
-    validate_identifier(table, name)?;
-    if is_bare(table, name) {
+    let text = check_name(table, name)?;
+    if is_bare(table, text) {
         Ok(Form::Bare)
     } else {
         Ok(Form::Raw)
@@ -119,7 +117,7 @@ pub fn identifier_form<T: CharTable>(table: &T, name: &[u8]) -> Result<Form, Ref
 }
 
 fn put_formed<O: Output>(out: &mut O, form: Form, name: &[u8]) -> Result<(), Full>
-    ensures { Puts O.Output.room O.Output.took out.old (formed form name.now) (is_ok result) out.new }
+    ensures { Puts O.room O.took out.old (formed form name.now) (is_ok result) out.new }
 {
     match form {
         Form::Bare => out.put(name),
@@ -128,7 +126,7 @@ fn put_formed<O: Output>(out: &mut O, form: Form, name: &[u8]) -> Result<(), Ful
 }
 
 fn put_behind<O: Output>(out: &mut O, front: &[u8], back: &[u8]) -> Result<(), Full>
-    ensures { Puts O.Output.room O.Output.took out.old (front.now ++ back.now) (is_ok result) out.new }
+    ensures { Puts O.room O.took out.old (front.now ++ back.now) (is_ok result) out.new }
 {
     out.put(front)?;
     out.put(back)
@@ -140,7 +138,7 @@ pub fn write_identifier<O: Output, T: CharTable>(
     table: &T,
     name: &[u8],
 ) -> Result<(), Refusal>
-    ensures { Writes O.Output.room O.Output.took (name_refusal (T.CharTable.continues table.now) name.now) out.old (identifier (T.CharTable.starts table.now) (T.CharTable.continues table.now) (decoded name.now)) result out.new }
+    ensures { Writes O.room O.took (name_refusal (T.continues table.now) name.now) out.old (identifier (T.starts table.now) (T.continues table.now) (decoded name.now)) result out.new }
 {
     let form = identifier_form(table, name)?;
     put_formed(out, form, name)?;

@@ -18,7 +18,7 @@ fn digit(d: u8) -> u8
 pub(crate) fn put_numeral<O: Output>(out: &mut O, base: u64, n: u64) -> Result<(), Full>
     requires base_low { 2 ≤ base }
     requires base_high { base ≤ 16 }
-    ensures { Puts O.Output.room O.Output.took out.old (numeral base n) (is_ok result) out.new }
+    ensures { Puts O.room O.took out.old (numeral base n) (is_ok result) out.new }
 {
     if n < base {
         return out.put(&[digit(n as u8)]);
@@ -29,7 +29,7 @@ pub(crate) fn put_numeral<O: Output>(out: &mut O, base: u64, n: u64) -> Result<(
 
 /// A number in decimal digits, with no needless zero in front.
 pub fn put_decimal<O: Output>(out: &mut O, n: u64) -> Result<(), Full>
-    ensures { Puts O.Output.room O.Output.took out.old (numeral 10 n) (is_ok result) out.new }
+    ensures { Puts O.room O.took out.old (numeral 10 n) (is_ok result) out.new }
 {
     put_numeral(out, 10, n)
 }

@@ -1,24 +1,21 @@
 //! Text without escapes: quoted as it is, or raw between hashes.
-ghost use Rattle.std.specs.Prelude.{◌≡◌, true, replicate, is_ok};
-ghost use Rattle.chars.specs.Utf8.{utf8, decoded};
+ghost use Rattle.std.specs.Prelude.{◌≡◌, replicate, is_ok};
+ghost use Rattle.chars.specs.Texts.{characters};
+ghost use Rattle.chars.specs.Utf8.{decoded};
 ghost use Rattle.output.specs.Puts.{Puts};
 ghost use Rattle.words.specs.RawText.{hash, longest_hashes, holds_quote, quoted, fenced, unescaped_or_raw_str};
 ghost use Rattle.words.specs.Refusals.{text_refusal};
 ghost use Rattle.words.specs.Writes.{Writes};
 
 use crate::refusal::{Refusal, check_text};
+use chars::text::Text;
 use output::{Full, Output};
 
 // Whether a double quote or a backslash stands in the text.
 fn has_quote(text: &[u8]) -> bool
     ensures { result ≡ holds_quote text.now }
 {
-    for b in text {
-        if *b == b'"' || *b == b'\\' {
-            return true;
-        }
-    }
-    false
+    text.iter().any(|b| *b == b'"' || *b == b'\\')
 }
 
 // The longest run of hashes anywhere in the text.
@@ -35,16 +32,16 @@ fn count_hashes(text: &[u8]) -> usize
 }
 
 fn put_hashes<O: Output>(out: &mut O, n: usize) -> Result<(), Full>
-    ensures { Puts O.Output.room O.Output.took out.old (replicate n hash) (is_ok result) out.new }
+    ensures { Puts O.room O.took out.old (replicate n hash) (is_ok result) out.new }
 {
-    for _i in 0..n {
+    for _ in 0..n {
         out.put(b"#")?;
     }
     Ok(())
 }
 
 fn put_quoted<O: Output>(out: &mut O, bytes: &[u8]) -> Result<(), Full>
-    ensures { Puts O.Output.room O.Output.took out.old (quoted bytes.now) (is_ok result) out.new }
+    ensures { Puts O.room O.took out.old (quoted bytes.now) (is_ok result) out.new }
 {
     out.put(b"\"")?;
     out.put(bytes)?;
@@ -53,7 +50,7 @@ fn put_quoted<O: Output>(out: &mut O, bytes: &[u8]) -> Result<(), Full>
 
 // One hash more on each side than any run of them inside, so that no quote inside ends the text.
 fn put_fenced<O: Output>(out: &mut O, bytes: &[u8]) -> Result<(), Full>
-    ensures { Puts O.Output.room O.Output.took out.old (fenced (longest_hashes bytes.now) bytes.now) (is_ok result) out.new }
+    ensures { Puts O.room O.took out.old (fenced (longest_hashes bytes.now) bytes.now) (is_ok result) out.new }
 {
     let inside = count_hashes(bytes);
     out.put(b"#")?;
@@ -63,23 +60,24 @@ fn put_fenced<O: Output>(out: &mut O, bytes: &[u8]) -> Result<(), Full>
     put_hashes(out, inside)
 }
 
-fn put_unescaped_or_raw_str<O: Output>(out: &mut O, text: &[u8]) -> Result<(), Full>
-    requires { utf8 text.now ≡ true }
-    ensures { Puts O.Output.room O.Output.took out.old (unescaped_or_raw_str (decoded text.now)) (is_ok result) out.new }
+/// Puts out a text without escapes: raw where it holds a double quote or a backslash, else in double quotes as it is.
+pub fn put_unescaped_or_raw_str<O: Output>(out: &mut O, text: Text) -> Result<(), Full>
+    ensures { Puts O.room O.took out.old (unescaped_or_raw_str (characters text.entry)) (is_ok result) out.new }
 {
-    if has_quote(text) {
+    let bytes = text.as_bytes();
+    if has_quote(bytes) {
         out.put(b"r")?;
-        put_fenced(out, text)
+        put_fenced(out, bytes)
     } else {
-        put_quoted(out, text)
+        put_quoted(out, bytes)
     }
 }
 
 /// Writes text without escapes: raw where it holds a double quote or a backslash, else in double quotes as it is.
 pub fn serialize_unescaped_or_raw_str<O: Output>(out: &mut O, value: &[u8]) -> Result<(), Refusal>
-    ensures { Writes O.Output.room O.Output.took (text_refusal value.now) out.old (unescaped_or_raw_str (decoded value.now)) result out.new }
+    ensures { Writes O.room O.took (text_refusal value.now) out.old (unescaped_or_raw_str (decoded value.now)) result out.new }
 {
-    check_text(value)?;
-    put_unescaped_or_raw_str(out, value)?;
+    let text = check_text(value)?;
+    put_unescaped_or_raw_str(out, text)?;
     Ok(())
 }

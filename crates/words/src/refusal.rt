@@ -1,26 +1,27 @@
 //! Why a word is not written. Each refusal has a number, which users look up.
 ghost use Rattle.std.specs.Prelude.{◌≡◌};
-ghost use Rattle.words.specs.Refusals.{number, unless, text_refusal};
-ghost use Rattle.words.specs.declared.refusal.Refusal.TheVariants.{NoSpace};
+ghost use Rattle.words.specs.Refusals.{number, IsText};
+ghost use Rattle.words.specs.declared.refusal.Refusal.TheVariants.{NotUtf8, NoSpace};
 
-use chars::utf8::malformed_at;
+use chars::text::Text;
+use chars::utf8::Malformed;
 use output::Full;
 
-/// Why a word is not written.
+/// Why a word is not written, with the number that users look up.
 #[derive(Clone, Copy, PartialEq, Eq, Debug)]
 pub enum Refusal {
     /// The bytes are not a name.
-    InvalidIdentifier,
+    InvalidIdentifier = 6,
     /// The bytes are not UTF-8.
-    NotUtf8,
+    NotUtf8 = 7,
     /// The number is not a scalar value.
-    NotScalar,
+    NotScalar = 8,
     /// The bytes are not the text of a float.
-    NotFloat,
+    NotFloat = 9,
     /// An argument has more than 65,535 bytes.
-    TooLong,
+    TooLong = 10,
     /// The word has more bytes than there is space for.
-    NoSpace,
+    NoSpace = 19,
 }
 
 impl Refusal {
@@ -28,14 +29,7 @@ impl Refusal {
     pub fn number(self) -> u8
         ensures { result ≡ number self }
     {
-        match self {
-            Self::InvalidIdentifier => 6,
-            Self::NotUtf8 => 7,
-            Self::NotScalar => 8,
-            Self::NotFloat => 9,
-            Self::TooLong => 10,
-            Self::NoSpace => 19,
-        }
+        self as u8
     }
 }
 
@@ -48,18 +42,24 @@ impl From<Full> for Refusal {
     }
 }
 
+/// Bytes that are not UTF-8 are no text.
+impl From<Malformed> for Refusal {
+    ghost from_gives = { λ _ r. r ≡ NotUtf8 };
+
+    fn from(_malformed: Malformed) -> Refusal {
+        Refusal::NotUtf8
+    }
+}
+
 /// The most bytes that an argument may have.
 pub const LONGEST: usize = 65535;
 
-/// Whether bytes may be an argument: not too long, and UTF-8, tested in this order.
-pub fn check_text(value: &[u8]) -> Result<(), Refusal>
-    ensures { result ≡ unless (text_refusal value.now) tt }
+/// The text of an argument: not too long, and UTF-8, tested in this order.
+pub fn check_text(value: &[u8]) -> Result<Text<'_>, Refusal>
+    ensures { IsText value.now result }
 {
     if value.len() > LONGEST {
         return Err(Refusal::TooLong);
     }
-    match malformed_at(value) {
-        Some(_) => Err(Refusal::NotUtf8),
-        None => Ok(()),
-    }
+    Ok(Text::new(value)?)
 }

@@ -1,9 +1,10 @@
 //! Text in double quotes, with escapes.
-ghost use Rattle.std.specs.Prelude.{◌≡◌, ◌≤◌, true, ◌++◌, length, is_ok};
-ghost use Rattle.chars.specs.Utf8.{utf8, decoded};
+ghost use Rattle.std.specs.Prelude.{◌≡◌, ◌≤◌, ◌++◌, length, is_ok};
+ghost use Rattle.chars.specs.Texts.{characters, text_bytes};
+ghost use Rattle.chars.specs.Utf8.{decoded};
 ghost use Rattle.output.specs.Puts.{Puts};
 ghost use Rattle.words.specs.Escapes.{escape, code, escapes, escaped_str};
-ghost use Rattle.words.specs.Inner.{written, PlainFront};
+ghost use Rattle.words.specs.Inner.{written};
 ghost use Rattle.words.specs.Refusals.{text_refusal};
 ghost use Rattle.words.specs.Writes.{Writes};
 
@@ -11,7 +12,7 @@ use crate::numeral::put_numeral;
 use crate::refusal::{Refusal, check_text};
 use chars::encoding::Encoded;
 use chars::table::CharTable;
-use chars::utf8::{Scalars, Step};
+use chars::text::Text;
 use output::{Full, Output};
 
 // How a character is written in an escaped text.
@@ -27,7 +28,7 @@ enum Escape {
 
 // Which of them it is.
 fn escape_of<T: CharTable>(table: &T, c: char) -> Escape
-    ensures { written result c ≡ escape (T.CharTable.shown table.now) c }
+    ensures { written result c ≡ escape (T.shown table.now) c }
 {
     match c {
         '\0' => Escape::Short(b'0'),
@@ -46,7 +47,7 @@ fn escape_of<T: CharTable>(table: &T, c: char) -> Escape
 
 // `\u{h}`, with the character's number.
 fn put_code<O: Output>(out: &mut O, c: char) -> Result<(), Full>
-    ensures { Puts O.Output.room O.Output.took out.old (code c) (is_ok result) out.new }
+    ensures { Puts O.room O.took out.old (code c) (is_ok result) out.new }
 {
     out.put(b"\\u{")?;
     put_numeral(out, 16, u64::from(c))?;
@@ -54,7 +55,7 @@ fn put_code<O: Output>(out: &mut O, c: char) -> Result<(), Full>
 }
 
 fn put_escape<O: Output>(out: &mut O, c: char, escape: Escape) -> Result<(), Full>
-    ensures { Puts O.Output.room O.Output.took out.old (written escape c) (is_ok result) out.new }
+    ensures { Puts O.room O.took out.old (written escape c) (is_ok result) out.new }
 {
     match escape {
         Escape::Plain => out.put(Encoded::new(c).as_bytes()),
@@ -63,48 +64,35 @@ fn put_escape<O: Output>(out: &mut O, c: char, escape: Escape) -> Result<(), Ful
     }
 }
 
-// How many bytes at the front of a text stand for themselves, so that they can be put out in one piece.
-fn plain_run<T: CharTable>(table: &T, text: &[u8]) -> usize
-    ensures bound { result ≤ length text.now }
-    ensures plain { PlainFront (T.CharTable.shown table.now) text.now result }
+// The front of a text that stands for itself, so that it can be put out in one piece, and what is left to escape.
+fn split_plain<'a, T: CharTable>(table: &T, text: Text<'a>) -> (&'a [u8], Text<'a>)
+    ensures parts { escapes (T.shown table.now) (characters text.entry) ≡ result.0.now ++ escapes (T.shown table.now) (characters result.1) }
+    ensures bound { length (text_bytes result.1) ≤ length (text_bytes text.entry) }
 {
-    let mut cursor = Scalars::new(text);
-    let mut run = 0;
-    while let Step::Scalar(c) = cursor.step() {
+    let mut rest = text;
+    while let Some((c, after)) = rest.split_first() {
         match escape_of(table, c) {
-            Escape::Plain => run = cursor.position(),
-            _ => return run,
+            Escape::Plain => rest = after,
+            _ => break,
         }
     }
-    run
-}
-
-// The plain front of a text, and what is left to escape.
-fn split_plain<'a, T: CharTable>(table: &T, text: &'a [u8]) -> (&'a [u8], &'a [u8])
-    requires { utf8 text.now ≡ true }
-    ensures parts { escapes (T.CharTable.shown table.now) (decoded text.now) ≡ result.0.now ++ escapes (T.CharTable.shown table.now) (decoded result.1.now) }
-    ensures left { utf8 result.1.now ≡ true }
-    ensures bound { length result.1.now ≤ length text.now }
-{
-    text.split_at(plain_run(table, text))
+    let bytes = text.as_bytes();
+    (&bytes[..bytes.len() - rest.as_bytes().len()], rest)
 }
 
 // Each character as it is or escaped, without the quotes around them.
-fn put_escapes<O: Output, T: CharTable>(out: &mut O, table: &T, text: &[u8]) -> Result<(), Full>
-    requires { utf8 text.now ≡ true }
-    ensures { Puts O.Output.room O.Output.took out.old (escapes (T.CharTable.shown table.now) (decoded text.now)) (is_ok result) out.new }
+fn put_escapes<O: Output, T: CharTable>(out: &mut O, table: &T, text: Text) -> Result<(), Full>
+    ensures { Puts O.room O.took out.old (escapes (T.shown table.now) (characters text.entry)) (is_ok result) out.new }
 {
     let mut rest = text;
     loop {
         let (plain, after) = split_plain(table, rest);
         out.put(plain)?;
-        let mut cursor = Scalars::new(after);
-        match cursor.step() {
-            Step::Scalar(c) => put_escape(out, c, escape_of(table, c))?,
-            Step::End => return Ok(()),
-            Step::Malformed(_) => unreachable(),
-        }
-        rest = cursor.rest();
+        let Some((c, behind)) = after.split_first() else {
+            return Ok(());
+        };
+        put_escape(out, c, escape_of(table, c))?;
+        rest = behind;
     }
 }
 
@@ -114,16 +102,15 @@ pub fn serialize_escaped_str<O: Output, T: CharTable>(
     table: &T,
     value: &[u8],
 ) -> Result<(), Refusal>
-    ensures { Writes O.Output.room O.Output.took (text_refusal value.now) out.old (escaped_str (T.CharTable.shown table.now) (decoded value.now)) result out.new }
+    ensures { Writes O.room O.took (text_refusal value.now) out.old (escaped_str (T.shown table.now) (decoded value.now)) result out.new }
 {
-    check_text(value)?;
-    put_escaped_str(out, table, value)?;
+    let text = check_text(value)?;
+    put_escaped_str(out, table, text)?;
     Ok(())
 }
 
-fn put_escaped_str<O: Output, T: CharTable>(out: &mut O, table: &T, text: &[u8]) -> Result<(), Full>
-    requires { utf8 text.now ≡ true }
-    ensures { Puts O.Output.room O.Output.took out.old (escaped_str (T.CharTable.shown table.now) (decoded text.now)) (is_ok result) out.new }
+fn put_escaped_str<O: Output, T: CharTable>(out: &mut O, table: &T, text: Text) -> Result<(), Full>
+    ensures { Puts O.room O.took out.old (escaped_str (T.shown table.now) (characters text.entry)) (is_ok result) out.new }
 {
     out.put(b"\"")?;
     put_escapes(out, table, text)?;

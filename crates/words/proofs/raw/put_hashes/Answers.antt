@@ -6,8 +6,8 @@ use Rattle.words.proofs.raw.put_hashes.Goals as goal
 pub returns-in_err-put : goal.returns-in_err-put
 returns-in_err-put g c =
     puts_exit _ c.from_residual.ensures.0
-    (c.loop-i.invariant _ _ (puts_as (hashes_next c.args.n c.loop-i._i (omega arith)) (puts_stop _ c.in_err-put.ensures.puts)))
+    (c.loop.invariant _ _ (puts_as (hashes_next c.args.n c.loop.counter (omega arith)) (puts_stop _ c.in_err-put.ensures.puts)))
 
-pub loop-i-preserved : goal.loop-i-preserved
-loop-i-preserved g c =
-    λ r b p. c.loop-i.invariant r b (puts_as (hashes_next c.args.n c.loop-i._i (omega arith)) (puts_then g.O.Output.adds c.in_ok-put.ensures.puts p))
+pub loop-preserved : goal.loop-preserved
+loop-preserved g c =
+    λ r b p. c.loop.invariant r b (puts_as (hashes_next c.args.n c.loop.counter (omega arith)) (puts_then g.O.Output.adds c.in_ok-put.ensures.puts p))

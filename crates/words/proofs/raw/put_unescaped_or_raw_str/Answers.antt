@@ -5,11 +5,11 @@ use Rattle.words.proofs.raw.put_unescaped_or_raw_str.Goals as goal
 pub returns-in_err-put : goal.returns-in_err-put
 returns-in_err-put g c =
     puts_exit _ c.from_residual.ensures.0
-    (puts_as (raw_is c.args.text.now c.requires c.if-has_quote.ensures) (puts_stop _ c.in_err-put.ensures.puts))
+    (puts_as (raw_is c.args.text _ c.as_bytes-bytes.ensures c.if-has_quote.ensures) (puts_stop _ c.in_err-put.ensures.puts))
 
 pub returns-in_ok-put : goal.returns-in_ok-put
 returns-in_ok-put g c =
-    puts_as (raw_is c.args.text.now c.requires c.if-has_quote.ensures) (puts_then g.O.Output.adds c.in_ok-put.ensures.puts c.put_fenced.ensures)
+    puts_as (raw_is c.args.text _ c.as_bytes-bytes.ensures c.if-has_quote.ensures) (puts_then g.O.Output.adds c.in_ok-put.ensures.puts c.put_fenced.ensures)
 
 pub returns-else-has_quote : goal.returns-else-has_quote
-returns-else-has_quote g c = puts_as (quoted_is c.args.text.now c.requires c.if-has_quote.ensures) c.put_quoted.ensures
+returns-else-has_quote g c = puts_as (quoted_is c.args.text _ c.as_bytes-bytes.ensures c.if-has_quote.ensures) c.put_quoted.ensures

@@ -1,16 +1,15 @@
-use Rattle.std.proofs.Common.{◌≡◌, Bool, true, length}
-use Rattle.chars.specs.Utf8.{utf8, decoded}
+use Rattle.std.proofs.Common.{Bool, length}
+use Rattle.chars.specs.Texts.{characters, text_bytes}
 use Rattle.output.specs.Puts.{Puts}
 use Rattle.words.specs.Escapes.{escapes}
 use Rattle.words.proofs.text.put_escapes.Given as goal
 
 -- whoever puts the escapes of the rest has put those of the text
-abbrev pub invariant-loop-cursor : goal.invariant-loop-cursor
-invariant-loop-cursor g l =
-    (utf8 l.rest ≡ true)
-    × ((r : Bool) (b : g.row.O.Denot)
-    → Puts g.O.Output.room g.O.Output.took l.out (escapes (g.T.CharTable.shown l.table) (decoded l.rest)) r b
-    → Puts g.O.Output.room g.O.Output.took l.initial.out (escapes (g.T.CharTable.shown l.table) (decoded l.initial.rest)) r b)
+abbrev pub invariant-loop-after : goal.invariant-loop-after
+invariant-loop-after g l =
+    (r : Bool) (b : g.row.O.Denot)
+    → Puts g.O.Output.room g.O.Output.took l.out (escapes (g.T.CharTable.shown l.table) (characters l.rest)) r b
+    → Puts g.O.Output.room g.O.Output.took l.initial.out (escapes (g.T.CharTable.shown l.table) (characters l.text)) r b
 
-abbrev pub decreases-loop-cursor : goal.decreases-loop-cursor
-decreases-loop-cursor g l = length l.rest
+abbrev pub decreases-loop-after : goal.decreases-loop-after
+decreases-loop-after g l = length (text_bytes l.rest)
