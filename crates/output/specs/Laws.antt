@@ -39,22 +39,9 @@ keeps_steady = record {
 -- what each call keeps of a pair's memories, several calls keep
 pub keeps_both_steady : Steady KeepsBoth
 keeps_both_steady = record {
-  same = λ a. record {
-    grows = omega arith;
-    first_length = refl;
-    second_length = refl;
-    first_behind = λ k h. refl;
-    second_behind = λ k h. refl;
-    first_place = refl;
-    second_place = refl;
-  };
+  same = λ a. record { first = keeps_steady.same a.first; second = keeps_steady.same a.second };
   then = λ a b c p q. record {
-    grows = omega (arith, p.grows, q.grows);
-    first_length = q.first_length ∙ p.first_length;
-    second_length = q.second_length ∙ p.second_length;
-    first_behind = λ k h. q.first_behind k h ∙ p.first_behind k (omega (arith, q.grows, q.first_length));
-    second_behind = λ k h. q.second_behind k h ∙ p.second_behind k (omega (arith, q.grows, q.first_length, q.second_length));
-    first_place = q.first_place ∙ p.first_place;
-    second_place = q.second_place ∙ p.second_place;
+    first = keeps_steady.then a.first b.first c.first p.first q.first;
+    second = keeps_steady.then a.second b.second c.second p.second q.second;
   };
 }

@@ -37,7 +37,7 @@ impl Output for Gauge {
         if bytes.len() > self.room {
             return Err(Full);
         }
-        *self = Gauge::new(self.room - bytes.len());
+        self.room -= bytes.len();
         Ok(())
     }
 }
