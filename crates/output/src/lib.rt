@@ -11,7 +11,7 @@ pub mod gauge;
 pub mod pair;
 
 /// The answer of an output that has no room for the bytes.
-#[derive(Clone, Copy)]
+#[derive(Clone, Copy, PartialEq, Eq, Debug)]
 pub struct Full;
 
 /// Takes bytes while there is room.
@@ -60,11 +60,11 @@ pub trait Sink {
 
 /// Every sink is an output, which takes bytes by adding them to its text.
 impl<S: Sink> Output for S {
-    ghost room = { S.Sink.space };
+    ghost room = { S.space };
 
-    ghost took = { Appended S.Sink.text S.Sink.keeps };
+    ghost took = { Appended S.text S.keeps };
 
-    ghost adds = { appended_adds S.Sink.text S.Sink.keeps S.Sink.steady };
+    ghost adds = { appended_adds S.text S.keeps S.steady };
 
     fn put(&mut self, bytes: &[u8]) -> Result<(), Full> {
         self.append(bytes)
