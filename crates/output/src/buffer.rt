@@ -12,6 +12,7 @@ const MOST: usize = 1 << 30;
 #[derive(Drop)]
 pub struct Buffer<'a> {
     mem: &'a mut [u8],
+    // A length beside the memory, since the memory is lent and there is no heap.
     used: usize,
     ghost fits: { used ≤ min (length mem.now) (2 ^ 30) },
 }
@@ -30,6 +31,7 @@ impl<'a> Buffer<'a> {
     }
 
     /// Gives the memory back, and how many of its first bytes are the text.
+    // The two are no struct, since callers want the whole memory that they lent.
     pub fn into_parts(self) -> (&'a mut [u8], usize)
         ensures text { take result.1 result.0.now ≡ buffer_text self.entry }
         ensures len { result.1 ≡ length (buffer_text self.entry) }
