@@ -52,7 +52,7 @@ pub fn text(mem: &[u8], len: usize) -> &[u8]
 
 impl<'a> Sink for Buffer<'a> {
     ghost use Rattle.output.specs.Buffers.{buffer_text, buffer_space, Keeps};
-    ghost use Rattle.output.specs.Laws.{keeps_steady};
+    ghost use Rattle.std.proofs.Common.{arith};
 
     ghost text = { buffer_text };
 
@@ -60,7 +60,7 @@ impl<'a> Sink for Buffer<'a> {
 
     ghost keeps = { Keeps };
 
-    ghost steady = { keeps_steady };
+    ghost steady = { Prim.grind arith };
 
     fn space(&self) -> usize {
         self.mem.len().min(MOST) - self.used

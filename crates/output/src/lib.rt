@@ -4,7 +4,8 @@
 ghost use Rattle.std.specs.Prelude.{◌≡◌, ℕ, ◌-◌, false, List, ◌++◌, length, is_ok, if◌then◌else◌, nat_le};
 ghost use Rattle.output.specs.Puts.{Adds, Puts};
 ghost use Rattle.output.specs.Sinks.{Steady, Appended};
-ghost use Rattle.output.specs.Laws.{appended_adds};
+ghost use Rattle.std.proofs.Common.{arith};
+ghost use Rattle.std.proofs.lemmas.Grind.{common_steps};
 
 pub mod buffer;
 pub mod gauge;
@@ -64,7 +65,7 @@ impl<S: Sink> Output for S {
 
     ghost took = { Appended S.text S.keeps };
 
-    ghost adds = { appended_adds S.text S.keeps S.steady };
+    ghost adds = { Prim.grind (arith, common_steps, S.steady) };
 
     fn put(&mut self, bytes: &[u8]) -> Result<(), Full> {
         self.append(bytes)

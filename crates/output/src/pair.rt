@@ -54,7 +54,7 @@ impl<'a> Pair<'a> {
 
 impl<'a> Sink for Pair<'a> {
     ghost use Rattle.output.specs.Pairs.{pair_text, pair_space, KeepsBoth};
-    ghost use Rattle.output.specs.Laws.{keeps_both_steady};
+    ghost use Rattle.std.proofs.Common.{arith};
 
     ghost text = { pair_text };
 
@@ -62,7 +62,7 @@ impl<'a> Sink for Pair<'a> {
 
     ghost keeps = { KeepsBoth };
 
-    ghost steady = { keeps_both_steady };
+    ghost steady = { Prim.grind arith };
 
     fn space(&self) -> usize {
         self.first.space() + self.second.space()
