@@ -2,4 +2,3 @@ pub mod Puts
 pub mod Sinks
 pub mod Buffers
 pub mod Pairs
-pub mod Laws

@@ -1,6 +1,7 @@
 //! An output that counts and keeps nothing, to learn whether something would fit.
 ghost use Rattle.std.specs.Prelude.{◌≡◌, ◌+◌, length};
-ghost use Rattle.output.specs.Laws.{used_adds};
+ghost use Rattle.std.proofs.Common.{arith};
+ghost use Rattle.std.proofs.lemmas.Grind.{common_steps};
 
 use crate::{Full, Output};
 
@@ -31,13 +32,13 @@ impl Output for Gauge {
 
     ghost took = { λ a x b. length x + b.room ≡ a.room };
 
-    ghost adds = { used_adds (λ g. g.room) };
+    ghost adds = { Prim.grind (arith, common_steps) };
 
     fn put(&mut self, bytes: &[u8]) -> Result<(), Full> {
         if bytes.len() > self.room {
             return Err(Full);
         }
-        *self = Gauge::new(self.room - bytes.len());
+        self.room -= bytes.len();
         Ok(())
     }
 }

@@ -4,14 +4,15 @@
 ghost use Rattle.std.specs.Prelude.{◌≡◌, ℕ, ◌-◌, false, List, ◌++◌, length, is_ok, if◌then◌else◌, nat_le};
 ghost use Rattle.output.specs.Puts.{Adds, Puts};
 ghost use Rattle.output.specs.Sinks.{Steady, Appended};
-ghost use Rattle.output.specs.Laws.{appended_adds};
+ghost use Rattle.std.proofs.Common.{arith};
+ghost use Rattle.std.proofs.lemmas.Grind.{common_steps};
 
 pub mod buffer;
 pub mod gauge;
 pub mod pair;
 
 /// The answer of an output that has no room for the bytes.
-#[derive(Clone, Copy)]
+#[derive(Clone, Copy, PartialEq, Eq, Debug)]
 pub struct Full;
 
 /// Takes bytes while there is room.
@@ -22,13 +23,13 @@ pub trait Output {
     // What it is to have taken bytes: the output before, the bytes, the output after.
     ghost took: { Self → List ℕ → Self → Type 0 };
 
-    // Taking piece after piece is taking them all.
-    ghost adds: { Adds took };
-
     /// Takes all the bytes if they fit, and none of them otherwise.
     fn put(&mut self, bytes: &[u8]) -> Result<(), Full>
         ensures puts { Puts room took self.old bytes.now (is_ok result) self.new }
         ensures same { is_ok result ≡ false → self.new ≡ self.old };
+
+    // Taking piece after piece is taking them all.
+    ghost adds: { Adds took };
 }
 
 /// Keeps the bytes it takes: it has a text, and space for more.
@@ -42,9 +43,6 @@ pub trait Sink {
     // What no call changes: the sink before, the sink after.
     ghost keeps: { Self → Self → Type 0 };
 
-    // What two calls in turn each leave unchanged, they leave unchanged together.
-    ghost steady: { Steady keeps };
-
     /// How many more bytes fit.
     fn space(&self) -> usize
         ensures { result ≡ space self.now };
@@ -56,15 +54,18 @@ pub trait Sink {
         ensures space { space self.new ≡ (if is_ok result then space self.old - length bytes.now else space self.old) }
         ensures keeps { keeps self.old self.new }
         ensures same { is_ok result ≡ false → self.new ≡ self.old };
+
+    // What two calls in turn each leave unchanged, they leave unchanged together.
+    ghost steady: { Steady keeps };
 }
 
 /// Every sink is an output, which takes bytes by adding them to its text.
 impl<S: Sink> Output for S {
-    ghost room = { S.Sink.space };
+    ghost room = { S.space };
 
-    ghost took = { Appended S.Sink.text S.Sink.keeps };
+    ghost took = { Appended S.text S.keeps };
 
-    ghost adds = { appended_adds S.Sink.text S.Sink.keeps S.Sink.steady };
+    ghost adds = { Prim.grind (arith, common_steps, S.steady) };
 
     fn put(&mut self, bytes: &[u8]) -> Result<(), Full> {
         self.append(bytes)

@@ -1,9 +1,8 @@
 //! A sink over two memories that a caller lends, which fills one and then the other.
-ghost use Rattle.std.specs.Prelude.{◌≡◌, ◌+◌, ◌^◌, min, [], ◌++◌, length, take};
-ghost use Rattle.output.specs.Pairs.{in_first, in_second, pair_text, pair_space, KeepsBoth};
-ghost use Rattle.output.specs.Laws.{keeps_both_steady};
+ghost use Rattle.std.specs.Prelude.{◌≡◌, ◌+◌, ◌^◌, ◌<◌, min, [], ◌++◌, length, take};
+ghost use Rattle.output.specs.Buffers.{buffer_space};
 
-use crate::buffer::{MOST, write_at};
+use crate::buffer::Buffer;
 use crate::{Full, Sink};
 
 /// A text that begins in one memory and goes on in another, which a caller lends and gets back.
@@ -12,25 +11,26 @@ use crate::{Full, Sink};
 /// memory until the text reaches there.
 #[derive(Drop)]
 pub struct Pair<'a> {
-    first: &'a mut [u8],
-    second: &'a mut [u8],
-    used: usize,
+    first: Buffer<'a>,
+    second: Buffer<'a>,
+    ghost in_turn: { 0 < second.used → buffer_space first ≡ 0 },
 }
 
 impl<'a> Pair<'a> {
+    ghost use Rattle.output.specs.Pairs.{in_first, in_second, pair_text, pair_space};
+
     /// A pair with no text yet, which leaves both memories as they are.
     pub fn new(first: &'a mut [u8], second: &'a mut [u8]) -> Pair<'a>
         ensures text { pair_text result ≡ [] }
         ensures space { pair_space result ≡ min (length first.old) (2 ^ 30) + min (length second.old) (2 ^ 30) }
-        ensures first { result.first.now ≡ first.old }
-        ensures second { result.second.now ≡ second.old }
-        ensures first_place { result.first.ghost_name ≡ first.entry.ghost_name }
-        ensures second_place { result.second.ghost_name ≡ second.entry.ghost_name }
+        ensures first { result.first.mem.now ≡ first.old }
+        ensures second { result.second.mem.now ≡ second.old }
+        ensures first_place { result.first.mem.ghost_name ≡ first.entry.ghost_name }
+        ensures second_place { result.second.mem.ghost_name ≡ second.entry.ghost_name }
     {
         Pair {
-            first,
-            second,
-            used: 0,
+            first: Buffer::new(first),
+            second: Buffer::new(second),
         }
     }
 
@@ -39,72 +39,42 @@ impl<'a> Pair<'a> {
     pub fn into_parts(self) -> ((&'a mut [u8], usize), (&'a mut [u8], usize))
         ensures text { take result.0.1 result.0.0.now ++ take result.1.1 result.1.0.now ≡ pair_text self.entry }
         ensures len { result.0.1 + result.1.1 ≡ length (pair_text self.entry) }
-        ensures cut { result.0.1 ≡ min (length (pair_text self.entry)) (min (length self.entry.first.now) (2 ^ 30)) }
+        ensures cut { result.0.1 ≡ min (length (pair_text self.entry)) (min (length self.entry.first.mem.now) (2 ^ 30)) }
         ensures first_len { result.0.1 ≡ in_first self.entry }
         ensures second_len { result.1.1 ≡ in_second self.entry }
-        ensures first { result.0.0.now ≡ self.entry.first.now }
-        ensures second { result.1.0.now ≡ self.entry.second.now }
-        ensures first_place { result.0.0.ghost_name ≡ self.entry.first.ghost_name }
-        ensures second_place { result.1.0.ghost_name ≡ self.entry.second.ghost_name }
+        ensures first { result.0.0.now ≡ self.entry.first.mem.now }
+        ensures second { result.1.0.now ≡ self.entry.second.mem.now }
+        ensures first_place { result.0.0.ghost_name ≡ self.entry.first.mem.ghost_name }
+        ensures second_place { result.1.0.ghost_name ≡ self.entry.second.mem.ghost_name }
     {
-        let first_len = self.in_first();
-        let second_len = self.in_second();
-        let Pair {
-            first,
-            second,
-            used: _,
-        } = self;
-        ((first, first_len), (second, second_len))
-    }
-
-    // How many bytes of the first memory are text.
-    fn in_first(&self) -> usize
-        ensures { result ≡ in_first self.now }
-    {
-        self.used.min(self.first.len().min(MOST))
-    }
-
-    // How many bytes of the second memory are text.
-    fn in_second(&self) -> usize
-        ensures { result ≡ in_second self.now }
-    {
-        self.used
-            .saturating_sub(self.first.len().min(MOST))
-            .min(self.second.len().min(MOST))
-    }
-
-    // How many more bytes fit.
-    fn free(&self) -> usize
-        ensures { result ≡ pair_space self.now }
-    {
-        (self.first.len().min(MOST) + self.second.len().min(MOST)).saturating_sub(self.used)
+        let Pair { first, second } = self;
+        (first.into_parts(), second.into_parts())
     }
 }
 
 impl<'a> Sink for Pair<'a> {
+    ghost use Rattle.output.specs.Pairs.{pair_text, pair_space, KeepsBoth};
+    ghost use Rattle.std.proofs.Common.{arith};
+
     ghost text = { pair_text };
 
     ghost space = { pair_space };
 
     ghost keeps = { KeepsBoth };
 
-    ghost steady = { keeps_both_steady };
+    ghost steady = { Prim.grind arith };
 
     fn space(&self) -> usize {
-        self.free()
+        self.first.space() + self.second.space()
     }
 
     fn append(&mut self, bytes: &[u8]) -> Result<(), Full> {
-        if bytes.len() > self.free() {
+        if bytes.len() > self.space() {
             return Err(Full);
         }
-        let first_start = self.in_first();
-        let second_start = self.in_second();
         // The first memory takes what it has a place for, and the second takes the rest.
-        let cut = bytes.len().min(self.first.len().min(MOST) - first_start);
-        write_at(self.first, first_start, &bytes[..cut]);
-        write_at(self.second, second_start, &bytes[cut..]);
-        self.used += bytes.len();
-        Ok(())
+        let (front, back) = bytes.split_at(bytes.len().min(self.first.space()));
+        self.first.append(front)?;
+        self.second.append(back)
     }
 }
