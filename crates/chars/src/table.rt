@@ -15,9 +15,6 @@ pub trait CharTable {
     /// What stands for itself in an escaped text.
     ghost shown: { Self → ℕ → Bool };
 
-    /// The laws that hold of every table.
-    ghost lawful: { (t : Self) → Lawful (starts t) (continues t) (shown t) };
-
     /// Whether a name may begin with the character. The underscore, which may too, is not counted here.
     fn is_xid_start(&self, c: char) -> bool
         ensures { result ≡ starts self.now c };
@@ -29,6 +26,9 @@ pub trait CharTable {
     /// Whether the character stands for itself in an escaped text; any other is written as an escape.
     fn is_shown(&self, c: char) -> bool
         ensures { result ≡ shown self.now c };
+
+    /// The laws that hold of every table.
+    ghost lawful: { (t : Self) → Lawful (starts t) (continues t) (shown t) };
 }
 
 /// The table of ASCII alone: names are of its letters, digits and underscore, and whatever is not printable ASCII is escaped.

@@ -12,8 +12,8 @@ returns-in_err-put_byte g c =
 
 pub loop-b-preserved : goal.loop-b-preserved
 loop-b-preserved g c =
-    λ r o p. c.loop-b.invariant r o (puts_as (sym (at_drop_more (flat_map byte_escape) c.args.bytes.now c.loop-b.b-index 0 c.loop-b-test.true)) (puts_then g.O.Output.adds c.in_ok-put_byte.ensures p))
+    λ r o p. c.loop-b.invariant r o (puts_as (sym (at_drop_more (flat_map byte_escape) c.args.bytes.now c.loop-b.b-index 0 c.loop-b-test.true)) (puts_then g.met.O.Output.adds c.in_ok-put_byte.ensures p))
 
 pub returns : goal.returns
 returns g c =
-    c.loop-b.invariant _ _ (puts_as (sym (at_drop_all (flat_map byte_escape) c.args.bytes.now c.loop-b.b-index c.loop-b-test.false)) (puts_none g.O.Output.adds))
+    c.loop-b.invariant _ _ (puts_as (sym (at_drop_all (flat_map byte_escape) c.args.bytes.now c.loop-b.b-index c.loop-b-test.false)) (puts_none g.met.O.Output.adds))

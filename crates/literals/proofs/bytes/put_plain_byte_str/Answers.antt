@@ -7,4 +7,4 @@ returns-in_err-put g c = writes_stop _ (exits _ _ c.from_residual.ensures.1) (wr
 
 pub returns : goal.returns
 returns g c =
-    writes_then g.O.Output.adds (writes_bytes c.in_ok-put.ensures.puts) (writes_plain c.requires c.serialize_unescaped_or_raw_str.ensures)
+    writes_then g.met.O.Output.adds (writes_bytes c.in_ok-put.ensures.puts) (writes_plain c.requires c.serialize_unescaped_or_raw_str.ensures)

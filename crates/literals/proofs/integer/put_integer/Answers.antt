@@ -11,11 +11,11 @@ returns-in_err-put_sign g c =
 pub returns-in_err-put_decimal : goal.returns-in_err-put_decimal
 returns-in_err-put_decimal g c =
     puts_exit _ c.from_residual-in_err-put_decimal.ensures.0
-    (puts_then g.O.Output.adds (puts_as (ap sign c.is_negative.ensures) c.in_ok-put_sign.ensures)
+    (puts_then g.met.O.Output.adds (puts_as (ap sign c.is_negative.ensures) c.in_ok-put_sign.ensures)
     (puts_stop _ (puts_as (ap (numeral 10) c.magnitude.ensures) c.in_err-put_decimal.ensures)))
 
 pub returns : goal.returns
 returns g c =
-    puts_then g.O.Output.adds (puts_as (ap sign c.is_negative.ensures) c.in_ok-put_sign.ensures)
-    (puts_then g.O.Output.adds (puts_as (ap (numeral 10) c.magnitude.ensures) c.in_ok-put_decimal.ensures)
+    puts_then g.met.O.Output.adds (puts_as (ap sign c.is_negative.ensures) c.in_ok-put_sign.ensures)
+    (puts_then g.met.O.Output.adds (puts_as (ap (numeral 10) c.magnitude.ensures) c.in_ok-put_decimal.ensures)
     (puts_as (ap (suffix_if c.args.number_suffixes) c.suffix.ensures) c.put_suffix.ensures))

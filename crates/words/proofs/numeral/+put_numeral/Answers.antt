@@ -19,4 +19,4 @@ returns-in_err-put_numeral g t c =
 pub returns : goal.returns
 returns g t c =
     puts_as (sym (numeral_step c.args.base c.args.n c.requires.base_low c.if-n-base.false))
-    (puts_then g.O.Output.adds c.in_ok-put_numeral.ensures (puts_as (ap (λ d. d ∷ []) c.digit-2.ensures) c.put-2.ensures.puts))
+    (puts_then g.met.O.Output.adds c.in_ok-put_numeral.ensures (puts_as (ap (λ d. d ∷ []) c.digit-2.ensures) c.put-2.ensures.puts))

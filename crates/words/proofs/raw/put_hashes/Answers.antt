@@ -10,4 +10,4 @@ returns-in_err-put g c =
 
 pub loop-preserved : goal.loop-preserved
 loop-preserved g c =
-    λ r b p. c.loop.invariant r b (puts_as (hashes_next c.args.n c.loop.counter (omega arith)) (puts_then g.O.Output.adds c.in_ok-put.ensures.puts p))
+    λ r b p. c.loop.invariant r b (puts_as (hashes_next c.args.n c.loop.counter (omega arith)) (puts_then g.met.O.Output.adds c.in_ok-put.ensures.puts p))

@@ -9,10 +9,10 @@ returns-in_err-put g c = puts_exit _ c.from_residual.ensures.0 (puts_stop _ c.in
 pub returns-in_err-put_numeral : goal.returns-in_err-put_numeral
 returns-in_err-put_numeral g c =
     puts_exit _ c.from_residual-in_err-put_numeral.ensures.0
-    (puts_then g.O.Output.adds c.in_ok-put.ensures.puts
+    (puts_then g.met.O.Output.adds c.in_ok-put.ensures.puts
     (puts_stop _ (puts_as (ap (numeral 16) c.from.ensures) c.in_err-put_numeral.ensures)))
 
 pub returns : goal.returns
 returns g c =
-    puts_then g.O.Output.adds c.in_ok-put.ensures.puts
-    (puts_then g.O.Output.adds (puts_as (ap (numeral 16) c.from.ensures) c.in_ok-put_numeral.ensures) c.put-2.ensures.puts)
+    puts_then g.met.O.Output.adds c.in_ok-put.ensures.puts
+    (puts_then g.met.O.Output.adds (puts_as (ap (numeral 16) c.from.ensures) c.in_ok-put_numeral.ensures) c.put-2.ensures.puts)

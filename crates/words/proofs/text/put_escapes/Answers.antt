@@ -11,9 +11,9 @@ pub returns-in_err-put_escape : goal.returns-in_err-put_escape
 returns-in_err-put_escape g c =
     puts_exit _ c.from_residual-in_err-put_escape.ensures.0
     (c.loop-after.invariant _ _
-    (escape_stops (g.T.CharTable.shown c.args.table.now) _ c.split_plain.ensures.parts c.in-Some.ensures.value.2 c.escape_of.ensures g.O.Output.adds c.in_ok-put.ensures.puts c.in_err-put_escape.ensures))
+    (escape_stops (g.T.CharTable.shown c.args.table.now) _ c.split_plain.ensures.parts c.in-Some.ensures.value.2 c.escape_of.ensures g.met.O.Output.adds c.in_ok-put.ensures.puts c.in_err-put_escape.ensures))
 
 pub loop-after-preserved : goal.loop-after-preserved
 loop-after-preserved g c =
     λ r b h. c.loop-after.invariant r b
-    (escape_goes (g.T.CharTable.shown c.args.table.now) _ c.split_plain.ensures.parts c.in-Some.ensures.value.2 c.escape_of.ensures g.O.Output.adds c.in_ok-put.ensures.puts c.in_ok-put_escape.ensures h)
+    (escape_goes (g.T.CharTable.shown c.args.table.now) _ c.split_plain.ensures.parts c.in-Some.ensures.value.2 c.escape_of.ensures g.met.O.Output.adds c.in_ok-put.ensures.puts c.in_ok-put_escape.ensures h)
