@@ -5,7 +5,8 @@ use Rattle.std.proofs.lemmas.List.{at_drop_more}
 use Rattle.std.proofs.lemmas.Bool.{and_parts, and_from, or_left, or_right, or_cases, or_parts, not_from_false, cases_lt, cases_Bool, leb-true, leb-false, le-leb, ltb-true, ltb-false, eq-eqb, both_ways, false≢true}
 use Rattle.std.proofs.lemmas.Bool.Decides.{nat_tests, Decides-and, Decides-below_and}
 use Rattle.chars.specs.declared.ranges.Range.{Range}
-use Rattle.chars.specs.AsciiLaws.{none_in, not_in}
+use Rattle.chars.specs.Blanks.{none_in}
+use Rattle.chars.proofs.Apart.{not_in}
 use Rattle.chars.specs.Blanks.{among, blank, blanks}
 use Rattle.chars.specs.Tables.{letter, word, printable}
 use Rattle.chars.specs.Ranges.{IsTable, starting, continuing, showing, holds, in_set, whole, ordered}

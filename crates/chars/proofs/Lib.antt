@@ -1,3 +1,4 @@
+pub mod Apart
 pub mod Checking
 pub mod Decoding
 pub mod HighBytes

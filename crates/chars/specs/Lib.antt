@@ -1,4 +1,3 @@
-pub mod AsciiLaws
 pub mod Blanks
 pub mod Cursor
 pub mod Encoding

@@ -3,7 +3,7 @@
 use Rattle.std.specs.Prelude.{ℕ, zero, suc, ◌+◌, Bool, true, not, ◌&&◌, ◌||◌, List, [], ◌∷◌, length, nat_le, nat_lt}
 use Rattle.std.specs.Bool.{beq}
 use Rattle.chars.specs.declared.ranges.Range.{Range}
-use Rattle.chars.specs.AsciiLaws.{none_in}
+use Rattle.chars.specs.Blanks.{none_in}
 use Rattle.chars.specs.Blanks.{blanks}
 use Rattle.chars.specs.Ranges.{holds, whole}
 use Rattle.chars.specs.Tables.{letter, word, printable}

@@ -1,6 +1,6 @@
 //! The table that is made of a list of ranges of characters.
 ghost use Rattle.std.specs.Prelude.{◌≡◌, Bool, Ok, Err};
-ghost use Rattle.chars.specs.AsciiLaws.{none_in};
+ghost use Rattle.chars.specs.Blanks.{none_in};
 ghost use Rattle.chars.specs.Blanks.{blanks};
 ghost use Rattle.chars.specs.RangeChecks.{agreeing, classed, fits, gap, good};
 ghost use Rattle.chars.specs.Ranges.{IsTable, starting, continuing, showing, holds, whole, in_set};

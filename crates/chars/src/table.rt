@@ -1,7 +1,6 @@
 //! Tables of characters, and the table that knows ASCII alone.
 ghost use Rattle.std.specs.Prelude.{◌≡◌, ℕ, Bool};
 ghost use Rattle.chars.specs.Tables.{Lawful, letter, word, printable};
-ghost use Rattle.chars.specs.AsciiLaws.{ascii_lawful};
 
 /// Which characters a name is made of (UAX #31), and which ones an escaped text shows as they are.
 /// Every table agrees on ASCII and keeps blanks out of names; the rest is its own.
@@ -36,13 +35,16 @@ pub trait CharTable {
 pub struct Ascii;
 
 impl CharTable for Ascii {
+    ghost use Rattle.std.proofs.Common.{arith};
+    ghost use Rattle.std.proofs.lemmas.Bool.Decides.{nat_tests};
+
     ghost starts = { λ _ c. letter c };
 
     ghost continues = { λ _ c. word c };
 
     ghost shown = { λ _ c. printable c };
 
-    ghost lawful = { λ _. ascii_lawful };
+    ghost lawful = { Prim.grind (arith, nat_tests) };
 
     fn is_xid_start(&self, c: char) -> bool {
         matches!(c, 'A'..='Z' | 'a'..='z')

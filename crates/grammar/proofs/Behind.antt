@@ -2,7 +2,8 @@
 -- Assumes nothing.
 use Rattle.std.proofs.Common.{◌≡◌, ℕ, Bool, true, false, List, [], ◌∷◌, refl}
 use Rattle.std.proofs.lemmas.Bool.{both_ways}
-use Rattle.chars.specs.AsciiLaws.{none_in, not_in}
+use Rattle.chars.specs.Blanks.{none_in}
+use Rattle.chars.proofs.Apart.{not_in}
 use Rattle.chars.specs.Blanks.{among, blank}
 use Rattle.grammar.specs.Trees.{Trees}
 use Rattle.grammar.specs.Tokens.{begins, Blanks}

@@ -1,7 +1,8 @@
 -- Classes of characters over lists, and which of them go on behind an item.
 use Rattle.std.proofs.Common.{◌≡◌, ℕ, ◌<◌, Bool, true, false, List, [], ◌∷◌, ◌++◌, length, codes, refl, ⊎_elim, arith}
 use Rattle.std.proofs.lemmas.Bool.{and_parts, and_from, or_cases}
-use Rattle.chars.specs.AsciiLaws.{none_in, not_in}
+use Rattle.chars.specs.Blanks.{none_in}
+use Rattle.chars.proofs.Apart.{not_in}
 use Rattle.chars.specs.Blanks.{among, blank}
 use Rattle.words.specs.Classes.{all}
 use Rattle.grammar.specs.Tokens.{begins}

@@ -3,7 +3,8 @@
 use Rattle.std.proofs.Common.{◌≡◌, ℕ, zero, suc, Bool, true, false, cond, ◌||◌, eqb, List, [], ◌∷◌, ◌++◌, replicate, codes, refl, ap, ◌∙◌, ap₂, lit<}
 use mathlib.Core.List.{tail}
 use Rattle.std.proofs.lemmas.Bool.{both_ways, or_from, or_parts}
-use Rattle.chars.specs.AsciiLaws.{none_in, not_in}
+use Rattle.chars.specs.Blanks.{none_in}
+use Rattle.chars.proofs.Apart.{not_in}
 use Rattle.chars.specs.Blanks.{among, blank, blanks}
 use Rattle.chars.specs.Tables.{Lawful, letter, word}
 use Rattle.words.specs.Classes.{all, raw_char}

@@ -1,7 +1,7 @@
 -- A name reads back, bare and behind `r#`.
 use Rattle.std.proofs.Common.{◌≡◌, ℕ, Bool, true, false, not, ◌&&◌, ◌||◌, eqb, List, [], ◌∷◌, ◌++◌, None, codes, refl, ap, ◌∙◌, ⊎_elim, lit<}
 use Rattle.std.proofs.lemmas.Bool.{and_parts, and_from, not-true, or_cases, eqb-true, false≢true}
-use Rattle.chars.specs.AsciiLaws.{not_in}
+use Rattle.chars.proofs.Apart.{not_in}
 use Rattle.chars.specs.Blanks.{blanks}
 use Rattle.chars.specs.Tables.{Lawful}
 use Rattle.chars.specs.Utf8.{scalars, decoded}

@@ -3,7 +3,7 @@ use Rattle.std.proofs.Common.{◌≡◌, ℕ, suc, ◌<◌, Bool, true, false, L
 use Rattle.std.specs.Char.{digit_char as digitChar}
 use Rattle.std.proofs.lemmas.Bool.{or_left}
 use Rattle.std.proofs.lemmas.Bool.Decides.{nat_tests}
-use Rattle.chars.specs.AsciiLaws.{not_in}
+use Rattle.chars.proofs.Apart.{not_in}
 use Rattle.chars.specs.Blanks.{blanks}
 use Rattle.chars.specs.Tables.{digit}
 use Rattle.words.specs.Classes.{all}

@@ -3,7 +3,7 @@
 use Rattle.std.proofs.Common.{◌≡◌, ℕ, ◌<◌, Bool, true, false, eqb, List, [], ◌∷◌, ◌++◌, refl, ap, ◌∙◌, ⊎_elim, arith, lit<}
 use Rattle.std.proofs.lemmas.Bool.{both_ways, and_parts, and_from, or_cases, or_right, eqb-true}
 use Rattle.std.proofs.lemmas.Bool.Decides.{nat_tests}
-use Rattle.chars.specs.AsciiLaws.{none_in}
+use Rattle.chars.specs.Blanks.{none_in}
 use Rattle.chars.specs.Blanks.{blank}
 use Rattle.chars.specs.Tables.{Lawful, letter, word}
 use Rattle.words.specs.Classes.{all}
