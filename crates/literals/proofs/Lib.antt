@@ -1,3 +1,1 @@
-mod Digits
-mod Pairs
-mod Tests
+mod Suffixes

@@ -1,7 +1,11 @@
-use Rattle.std.proofs.Common.{◌<◌, rules}
-use Rattle.literals.proofs.Pairs.{pairs, pair_right}
+use Rattle.std.proofs.Common.{◌/◌, ◌%◌, arith}
+use Rattle.std.specs.Char.{digit_char}
+use Rattle.std.proofs.lemmas.List.FromFn.{get_or-map-range_with_len}
 use Rattle.literals.proofs.bytes.hex_pair.Goals as goal
 
+-- the table is the digits of 0 to 15
 pub returns : goal.returns
-unfolding pairs
-returns c = let byte : c.args.b < 256 = search rules in pair_right c.args.b byte
+returns c =
+    let high = get_or-map-range_with_len digit_char 0 16 c.from.result (c.args.b / 16) 0 (omega arith) (omega arith) in
+    let low = get_or-map-range_with_len digit_char 0 16 c.from-2.result (c.args.b % 16) 0 (omega arith) (omega arith) in
+    cc
