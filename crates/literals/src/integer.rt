@@ -40,6 +40,7 @@ pub trait Integer {
     }
 }
 
+// Eight impls alike: each type names its own suffix, and no macro may write an impl here.
 impl Integer for i8 {
     ghost value = { λ n. n };
 
