@@ -1,3 +1,2 @@
-mod Digits
 mod Pairs
-mod Tests
+mod Suffixes

@@ -1,17 +1,18 @@
 //! Byte strings.
-ghost use Rattle.std.specs.Prelude.{◌≡◌, ◌++◌, is_ok, None, codes};
+ghost use Rattle.std.specs.Prelude.{◌≡◌, ◌++◌, is_ok, codes};
 ghost use Rattle.std.specs.List.{flat_map};
+ghost use Rattle.chars.specs.Texts.{text_bytes};
 ghost use Rattle.output.specs.Puts.{Puts};
-ghost use Rattle.words.specs.Refusals.{unless, text_refusal};
+ghost use Rattle.words.specs.Refusals.{unless};
 ghost use Rattle.words.specs.Writes.{Writes};
 ghost use Rattle.literals.specs.Bytes.{digit_pair, byte_escape, escaped_byte_str, plain_byte_str, unescaped_or_raw_byte_str, bytes_refusal};
 
-use chars::utf8::malformed_at;
+use chars::text::Text;
 use output::{Full, Output};
-use words::raw::serialize_unescaped_or_raw_str;
+use words::raw::put_unescaped_or_raw_str;
 use words::refusal::{LONGEST, Refusal};
 
-// Each byte in two digits, one pair after another.
+// Each byte in two digits, one pair after another: a table, as the project has laid down.
 const DIGIT_PAIRS: &[u8; 512] =
     b"000102030405060708090a0b0c0d0e0f101112131415161718191a1b1c1d1e1f202122232425262728292a2b2c2d2e2f303132333435363738393a3b3c3d3e3f404142434445464748494a4b4c4d4e4f505152535455565758595a5b5c5d5e5f606162636465666768696a6b6c6d6e6f707172737475767778797a7b7c7d7e7f808182838485868788898a8b8c8d8e8f909192939495969798999a9b9c9d9e9fa0a1a2a3a4a5a6a7a8a9aaabacadaeafb0b1b2b3b4b5b6b7b8b9babbbcbdbebfc0c1c2c3c4c5c6c7c8c9cacbcccdcecfd0d1d2d3d4d5d6d7d8d9dadbdcdddedfe0e1e2e3e4e5e6e7e8e9eaebecedeeeff0f1f2f3f4f5f6f7f8f9fafbfcfdfeff";
 
@@ -24,7 +25,7 @@ pub fn hex_pair(b: u8) -> [u8; 2]
 }
 
 fn put_byte<O: Output>(out: &mut O, b: u8) -> Result<(), Full>
-    ensures { Puts O.Output.room O.Output.took out.old (byte_escape b) (is_ok result) out.new }
+    ensures { Puts O.room O.took out.old (byte_escape b) (is_ok result) out.new }
 {
     match b {
         b'\t' => out.put(b"\\t"),
@@ -37,14 +38,14 @@ fn put_byte<O: Output>(out: &mut O, b: u8) -> Result<(), Full>
 }
 
 fn put_pair<O: Output>(out: &mut O, b: u8) -> Result<(), Full>
-    ensures { Puts O.Output.room O.Output.took out.old (codes "\\x" ++ digit_pair b) (is_ok result) out.new }
+    ensures { Puts O.room O.took out.old (codes "\\x" ++ digit_pair b) (is_ok result) out.new }
 {
     out.put(b"\\x")?;
     out.put(&hex_pair(b))
 }
 
 fn put_byte_escapes<O: Output>(out: &mut O, bytes: &[u8]) -> Result<(), Full>
-    ensures { Puts O.Output.room O.Output.took out.old (flat_map byte_escape bytes.now) (is_ok result) out.new }
+    ensures { Puts O.room O.took out.old (flat_map byte_escape bytes.now) (is_ok result) out.new }
 {
     for b in bytes {
         put_byte(out, *b)?;
@@ -53,7 +54,7 @@ fn put_byte_escapes<O: Output>(out: &mut O, bytes: &[u8]) -> Result<(), Full>
 }
 
 fn put_escaped_byte_str<O: Output>(out: &mut O, bytes: &[u8]) -> Result<(), Full>
-    ensures { Puts O.Output.room O.Output.took out.old (escaped_byte_str bytes.now) (is_ok result) out.new }
+    ensures { Puts O.room O.took out.old (escaped_byte_str bytes.now) (is_ok result) out.new }
 {
     out.put(b"b\"")?;
     put_byte_escapes(out, bytes)?;
@@ -73,20 +74,18 @@ pub fn check_bytes(value: &[u8]) -> Result<(), Refusal>
 
 /// An escaped byte string.
 pub fn serialize_escaped_byte_str<O: Output>(out: &mut O, value: &[u8]) -> Result<(), Refusal>
-    ensures { Writes O.Output.room O.Output.took (bytes_refusal value.now) out.old (escaped_byte_str value.now) result out.new }
+    ensures { Writes O.room O.took (bytes_refusal value.now) out.old (escaped_byte_str value.now) result out.new }
 {
     check_bytes(value)?;
-    put_escaped_byte_str(out, value)?;
-    Ok(())
+    Ok(put_escaped_byte_str(out, value)?)
 }
 
-// Bytes that are UTF-8, like text without escapes.
-fn put_plain_byte_str<O: Output>(out: &mut O, value: &[u8]) -> Result<(), Refusal>
-    requires { text_refusal value.now ≡ None }
-    ensures { Writes O.Output.room O.Output.took None out.old (plain_byte_str value.now) result out.new }
+// A text, like text without escapes.
+fn put_plain_byte_str<O: Output>(out: &mut O, text: Text) -> Result<(), Full>
+    ensures { Puts O.room O.took out.old (plain_byte_str (text_bytes text.entry)) (is_ok result) out.new }
 {
     out.put(b"b")?;
-    serialize_unescaped_or_raw_str(out, value)
+    put_unescaped_or_raw_str(out, text)
 }
 
 /// A byte string without escapes where it is UTF-8, else an escaped one.
@@ -94,11 +93,12 @@ pub fn serialize_unescaped_or_raw_byte_str<O: Output>(
     out: &mut O,
     value: &[u8],
 ) -> Result<(), Refusal>
-    ensures { Writes O.Output.room O.Output.took (bytes_refusal value.now) out.old (unescaped_or_raw_byte_str value.now) result out.new }
+    ensures { Writes O.room O.took (bytes_refusal value.now) out.old (unescaped_or_raw_byte_str value.now) result out.new }
 {
     check_bytes(value)?;
-    match malformed_at(value) {
-        Some(_) => Ok(put_escaped_byte_str(out, value)?),
-        None => put_plain_byte_str(out, value),
+    match Text::new(value) {
+        Ok(text) => put_plain_byte_str(out, text)?,
+        Err(_) => put_escaped_byte_str(out, value)?,
     }
+    Ok(())
 }

@@ -9,7 +9,7 @@ use output::{Full, Output};
 use words::refusal::Refusal;
 
 fn put_char_body<O: Output>(out: &mut O, c: char) -> Result<(), Full>
-    ensures { Puts O.Output.room O.Output.took out.old (char_body c) (is_ok result) out.new }
+    ensures { Puts O.room O.took out.old (char_body c) (is_ok result) out.new }
 {
     match c {
         '\'' => out.put(b"\\'"),
@@ -19,7 +19,7 @@ fn put_char_body<O: Output>(out: &mut O, c: char) -> Result<(), Full>
 }
 
 fn put_char<O: Output>(out: &mut O, c: char) -> Result<(), Full>
-    ensures { Puts O.Output.room O.Output.took out.old (character c) (is_ok result) out.new }
+    ensures { Puts O.room O.took out.old (character c) (is_ok result) out.new }
 {
     out.put(b"'")?;
     put_char_body(out, c)?;
@@ -28,13 +28,8 @@ fn put_char<O: Output>(out: &mut O, c: char) -> Result<(), Full>
 
 /// A character in single quotes, from its number.
 pub fn serialize_char<O: Output>(out: &mut O, value: u32) -> Result<(), Refusal>
-    ensures { Writes O.Output.room O.Output.took (char_refusal value) out.old (character value) result out.new }
+    ensures { Writes O.room O.took (char_refusal value) out.old (character value) result out.new }
 {
-    match char::from_u32(value) {
-        None => Err(Refusal::NotScalar),
-        Some(c) => {
-            put_char(out, c)?;
-            Ok(())
-        }
-    }
+    let c = char::from_u32(value).ok_or(Refusal::NotScalar)?;
+    Ok(put_char(out, c)?)
 }

@@ -1,6 +1,5 @@
 //! Floats, which arrive as text.
-ghost use Rattle.std.specs.Prelude.{◌≡◌, ◌∷◌, is_ok, codes};
-ghost use Rattle.chars.specs.Tables.{digit};
+ghost use Rattle.std.specs.Prelude.{◌≡◌, [], ◌++◌, is_ok, unwrap_or, option_copied};
 ghost use Rattle.output.specs.Puts.{Puts};
 ghost use Rattle.words.specs.Refusals.{unless};
 ghost use Rattle.words.specs.Writes.{Writes};
@@ -11,22 +10,15 @@ use crate::integer::put_suffix;
 use output::{Full, Output};
 use words::refusal::Refusal;
 
-fn is_digit(b: u8) -> bool
-    ensures { result ≡ digit b }
-{
-    b'0' <= b && b <= b'9'
-}
-
 // What is behind the digits in front.
 fn past_digits(s: &[u8]) -> &[u8]
     ensures { result.now ≡ past_digits s.now }
 {
-    for (i, b) in s.iter().enumerate() {
-        if !is_digit(*b) {
-            return &s[i..];
-        }
+    let mut rest = s;
+    while let [b'0'..=b'9', more @ ..] = rest {
+        rest = more;
     }
-    &[]
+    rest
 }
 
 // Nothing but digits, and at least one.
@@ -34,15 +26,9 @@ fn is_digits(s: &[u8]) -> bool
     ensures { result ≡ digits s.now }
 {
     match s {
-        [first, rest @ ..] => is_digits_from(*first, rest),
-        [] => false,
+        [b'0'..=b'9', rest @ ..] => past_digits(rest).is_empty(),
+        _ => false,
     }
-}
-
-fn is_digits_from(first: u8, rest: &[u8]) -> bool
-    ensures { result ≡ digits (first ∷ rest.now) }
-{
-    is_digit(first) && past_digits(rest).is_empty()
 }
 
 // Behind the `e`: an optional minus, and digits.
@@ -50,18 +36,8 @@ fn is_exponent(s: &[u8]) -> bool
     ensures { result ≡ exponent s.now }
 {
     match s {
-        [first, rest @ ..] => is_exponent_from(*first, rest),
-        [] => false,
-    }
-}
-
-fn is_exponent_from(first: u8, rest: &[u8]) -> bool
-    ensures { result ≡ exponent (first ∷ rest.now) }
-{
-    if first == b'-' {
-        is_digits(rest)
-    } else {
-        is_digits_from(first, rest)
+        [b'-', rest @ ..] => is_digits(rest),
+        _ => is_digits(s),
     }
 }
 
@@ -70,15 +46,10 @@ fn is_fraction_end(s: &[u8]) -> bool
     ensures { result ≡ fraction_end s.now }
 {
     match s {
-        [first, rest @ ..] => is_fraction_end_from(*first, rest),
         [] => true,
+        [b'e', rest @ ..] => is_exponent(rest),
+        _ => false,
     }
-}
-
-fn is_fraction_end_from(first: u8, rest: &[u8]) -> bool
-    ensures { result ≡ fraction_end (first ∷ rest.now) }
-{
-    first == b'e' && is_exponent(rest)
 }
 
 // Behind the point: digits, and then that.
@@ -86,15 +57,9 @@ fn is_fraction(s: &[u8]) -> bool
     ensures { result ≡ fraction s.now }
 {
     match s {
-        [first, rest @ ..] => is_fraction_from(*first, rest),
-        [] => false,
+        [b'0'..=b'9', rest @ ..] => is_fraction_end(past_digits(rest)),
+        _ => false,
     }
-}
-
-fn is_fraction_from(first: u8, rest: &[u8]) -> bool
-    ensures { result ≡ fraction (first ∷ rest.now) }
-{
-    is_digit(first) && is_fraction_end(past_digits(rest))
 }
 
 // Behind the digits before the point: a point and a fraction, or `e` and an exponent.
@@ -102,18 +67,9 @@ fn is_behind_integer(s: &[u8]) -> bool
     ensures { result ≡ behind_integer s.now }
 {
     match s {
-        [first, rest @ ..] => is_behind_integer_from(*first, rest),
-        [] => false,
-    }
-}
-
-fn is_behind_integer_from(first: u8, rest: &[u8]) -> bool
-    ensures { result ≡ behind_integer (first ∷ rest.now) }
-{
-    if first == b'.' {
-        is_fraction(rest)
-    } else {
-        first == b'e' && is_exponent(rest)
+        [b'.', rest @ ..] => is_fraction(rest),
+        [b'e', rest @ ..] => is_exponent(rest),
+        _ => false,
     }
 }
 
@@ -122,18 +78,9 @@ fn is_decimal(s: &[u8]) -> bool
     ensures { result ≡ decimal s.now }
 {
     match s {
-        [first, rest @ ..] => is_decimal_from(*first, rest),
-        [] => false,
-    }
-}
-
-fn is_decimal_from(first: u8, rest: &[u8]) -> bool
-    ensures { result ≡ decimal (first ∷ rest.now) }
-{
-    if first == b'0' {
-        is_behind_integer(rest)
-    } else {
-        is_digit(first) && is_behind_integer(past_digits(rest))
+        [b'0', rest @ ..] => is_behind_integer(rest),
+        [b'1'..=b'9', rest @ ..] => is_behind_integer(past_digits(rest)),
+        _ => false,
     }
 }
 
@@ -154,7 +101,7 @@ pub fn is_float(s: &[u8]) -> bool
 }
 
 /// The width of a float, which its suffix names.
-#[derive(Clone, Copy)]
+#[derive(Clone, Copy, PartialEq, Eq, Debug)]
 pub enum Width {
     /// 32 bits.
     F32,
@@ -186,16 +133,11 @@ pub fn check_float(text: &[u8]) -> Result<(), Refusal>
     }
 }
 
-fn put_float<O: Output>(
-    out: &mut O,
-    text: &[u8],
-    number_suffixes: bool,
-    suffix: &[u8],
-) -> Result<(), Full>
-    ensures { Puts O.Output.room O.Output.took out.old (float number_suffixes suffix.now text.now) (is_ok result) out.new }
+fn put_float<O: Output>(out: &mut O, text: &[u8], suffix: Option<&[u8]>) -> Result<(), Full>
+    ensures { Puts O.room O.took out.old (text.now ++ unwrap_or (option_copied suffix.entry) []) (is_ok result) out.new }
 {
     out.put(text)?;
-    put_suffix(out, number_suffixes, suffix)
+    put_suffix(out, suffix)
 }
 
 /// A float from its text, with the suffix of its width where number suffixes are on.
@@ -205,9 +147,9 @@ pub fn serialize_float<O: Output>(
     width: Width,
     number_suffixes: bool,
 ) -> Result<(), Refusal>
-    ensures { Writes O.Output.room O.Output.took (float_refusal text.now) out.old (float number_suffixes (float_suffix width) text.now) result out.new }
+    ensures { Writes O.room O.took (float_refusal text.now) out.old (float number_suffixes (float_suffix width) text.now) result out.new }
 {
     check_float(text)?;
-    put_float(out, text, number_suffixes, width.suffix())?;
-    Ok(())
+    let suffix = number_suffixes.then_some(width.suffix());
+    Ok(put_float(out, text, suffix)?)
 }

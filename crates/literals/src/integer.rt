@@ -1,14 +1,14 @@
 //! Integers in plain decimal.
-ghost use Rattle.std.specs.Prelude.{◌≡◌, ℕ, Bool, List, ℤ, pos, is_ok, None, codes, unsigned_abs};
+ghost use Rattle.std.specs.Prelude.{◌≡◌, ℕ, ◌^◌, ◌<◌, List, [], ℤ, pos, is_ok, None, unwrap_or, option_copied, codes, unsigned_abs};
 ghost use Rattle.output.specs.Puts.{Puts};
 ghost use Rattle.words.specs.Writes.{Writes};
-ghost use Rattle.literals.specs.Integers.{negative, sign, suffix_if, integer};
+ghost use Rattle.literals.specs.Integers.{negative, sign, integer};
 
 use output::{Full, Output};
 use words::numeral::put_decimal;
 use words::refusal::Refusal;
 
-/// An integer of some width.
+/// An integer of at most 64 bits.
 pub trait Integer {
     /// The number that it is.
     ghost value: { Self → ℤ };
@@ -16,30 +16,38 @@ pub trait Integer {
     /// What names its type behind a number.
     ghost suffix: { List ℕ };
 
-    /// Whether it is below zero.
-    fn is_negative(&self) -> bool
-        ensures { result ≡ negative (value self.now) };
-
-    /// Its distance from zero.
-    fn magnitude(&self) -> u64
-        ensures { result ≡ unsigned_abs (value self.now) };
+    /// The number that it is, which is less than 2^64 away from zero.
+    fn to_i128(&self) -> i128
+        ensures value { result ≡ value self.now }
+        ensures fits { unsigned_abs result < 2 ^ 64 };
 
     /// What names its type behind a number.
     fn suffix(&self) -> &'static [u8]
         ensures { result.now ≡ suffix };
+
+    /// Whether it is below zero.
+    fn is_negative(&self) -> bool
+        ensures { result ≡ negative (value self.now) }
+    {
+        self.to_i128() < 0
+    }
+
+    /// Its distance from zero.
+    fn magnitude(&self) -> u64
+        ensures { result ≡ unsigned_abs (value self.now) }
+    {
+        self.to_i128().unsigned_abs() as u64
+    }
 }
 
+// Eight impls alike: each type names its own suffix, and no macro may write an impl here.
 impl Integer for i8 {
     ghost value = { λ n. n };
 
     ghost suffix = { codes "i8" };
 
-    fn is_negative(&self) -> bool {
-        *self < 0
-    }
-
-    fn magnitude(&self) -> u64 {
-        u64::from(self.unsigned_abs())
+    fn to_i128(&self) -> i128 {
+        i128::from(*self)
     }
 
     fn suffix(&self) -> &'static [u8] {
@@ -52,12 +60,8 @@ impl Integer for i16 {
 
     ghost suffix = { codes "i16" };
 
-    fn is_negative(&self) -> bool {
-        *self < 0
-    }
-
-    fn magnitude(&self) -> u64 {
-        u64::from(self.unsigned_abs())
+    fn to_i128(&self) -> i128 {
+        i128::from(*self)
     }
 
     fn suffix(&self) -> &'static [u8] {
@@ -70,12 +74,8 @@ impl Integer for i32 {
 
     ghost suffix = { codes "i32" };
 
-    fn is_negative(&self) -> bool {
-        *self < 0
-    }
-
-    fn magnitude(&self) -> u64 {
-        u64::from(self.unsigned_abs())
+    fn to_i128(&self) -> i128 {
+        i128::from(*self)
     }
 
     fn suffix(&self) -> &'static [u8] {
@@ -88,12 +88,8 @@ impl Integer for i64 {
 
     ghost suffix = { codes "i64" };
 
-    fn is_negative(&self) -> bool {
-        *self < 0
-    }
-
-    fn magnitude(&self) -> u64 {
-        self.unsigned_abs()
+    fn to_i128(&self) -> i128 {
+        i128::from(*self)
     }
 
     fn suffix(&self) -> &'static [u8] {
@@ -106,12 +102,8 @@ impl Integer for u8 {
 
     ghost suffix = { codes "u8" };
 
-    fn is_negative(&self) -> bool {
-        false
-    }
-
-    fn magnitude(&self) -> u64 {
-        u64::from(*self)
+    fn to_i128(&self) -> i128 {
+        i128::from(*self)
     }
 
     fn suffix(&self) -> &'static [u8] {
@@ -124,12 +116,8 @@ impl Integer for u16 {
 
     ghost suffix = { codes "u16" };
 
-    fn is_negative(&self) -> bool {
-        false
-    }
-
-    fn magnitude(&self) -> u64 {
-        u64::from(*self)
+    fn to_i128(&self) -> i128 {
+        i128::from(*self)
     }
 
     fn suffix(&self) -> &'static [u8] {
@@ -142,12 +130,8 @@ impl Integer for u32 {
 
     ghost suffix = { codes "u32" };
 
-    fn is_negative(&self) -> bool {
-        false
-    }
-
-    fn magnitude(&self) -> u64 {
-        u64::from(*self)
+    fn to_i128(&self) -> i128 {
+        i128::from(*self)
     }
 
     fn suffix(&self) -> &'static [u8] {
@@ -160,12 +144,8 @@ impl Integer for u64 {
 
     ghost suffix = { codes "u64" };
 
-    fn is_negative(&self) -> bool {
-        false
-    }
-
-    fn magnitude(&self) -> u64 {
-        *self
+    fn to_i128(&self) -> i128 {
+        i128::from(*self)
     }
 
     fn suffix(&self) -> &'static [u8] {
@@ -174,23 +154,26 @@ impl Integer for u64 {
 }
 
 fn put_sign<O: Output>(out: &mut O, minus: bool) -> Result<(), Full>
-    ensures { Puts O.Output.room O.Output.took out.old (sign minus) (is_ok result) out.new }
+    ensures { Puts O.room O.took out.old (sign minus) (is_ok result) out.new }
 {
     if minus { out.put(b"-") } else { Ok(()) }
 }
 
-pub(crate) fn put_suffix<O: Output>(out: &mut O, on: bool, suffix: &[u8]) -> Result<(), Full>
-    ensures { Puts O.Output.room O.Output.took out.old (suffix_if on suffix.now) (is_ok result) out.new }
+pub(crate) fn put_suffix<O: Output>(out: &mut O, suffix: Option<&[u8]>) -> Result<(), Full>
+    ensures { Puts O.room O.took out.old (unwrap_or (option_copied suffix.entry) []) (is_ok result) out.new }
 {
-    if on { out.put(suffix) } else { Ok(()) }
+    match suffix {
+        Some(suffix) => out.put(suffix),
+        None => Ok(()),
+    }
 }
 
 fn put_integer<O: Output, N: Integer>(out: &mut O, n: &N, number_suffixes: bool) -> Result<(), Full>
-    ensures { Puts O.Output.room O.Output.took out.old (integer (N.Integer.value n.now) number_suffixes N.Integer.suffix) (is_ok result) out.new }
+    ensures { Puts O.room O.took out.old (integer (N.value n.now) number_suffixes N.suffix) (is_ok result) out.new }
 {
     put_sign(out, n.is_negative())?;
     put_decimal(out, n.magnitude())?;
-    put_suffix(out, number_suffixes, n.suffix())
+    put_suffix(out, number_suffixes.then_some(n.suffix()))
 }
 
 /// An integer, with the suffix of its type where number suffixes are on.
@@ -199,8 +182,7 @@ pub fn serialize_integer<O: Output, N: Integer>(
     n: &N,
     number_suffixes: bool,
 ) -> Result<(), Refusal>
-    ensures { Writes O.Output.room O.Output.took None out.old (integer (N.Integer.value n.now) number_suffixes N.Integer.suffix) result out.new }
+    ensures { Writes O.room O.took None out.old (integer (N.value n.now) number_suffixes N.suffix) result out.new }
 {
-    put_integer(out, n, number_suffixes)?;
-    Ok(())
+    Ok(put_integer(out, n, number_suffixes)?)
 }

@@ -1,9 +1,6 @@
 use Rattle.output.proofs.Pieces.{puts_then, puts_stop, puts_exit}
 use Rattle.literals.proofs.bytes.put_escaped_byte_str.Goals as goal
 
-pub returns-in_err-put : goal.returns-in_err-put
-returns-in_err-put g c = puts_exit _ c.from_residual.ensures.0 (puts_stop _ c.in_err-put.ensures.puts)
-
 pub returns-in_err-put_byte_escapes : goal.returns-in_err-put_byte_escapes
 returns-in_err-put_byte_escapes g c =
     puts_exit _ c.from_residual-in_err-put_byte_escapes.ensures.0

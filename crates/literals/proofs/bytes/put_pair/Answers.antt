@@ -1,8 +1,5 @@
-use Rattle.output.proofs.Pieces.{puts_as, puts_then, puts_stop, puts_exit}
+use Rattle.output.proofs.Pieces.{puts_as, puts_then}
 use Rattle.literals.proofs.bytes.put_pair.Goals as goal
-
-pub returns-in_err-put : goal.returns-in_err-put
-returns-in_err-put g c = puts_exit _ c.from_residual.ensures.0 (puts_stop _ c.in_err-put.ensures.puts)
 
 pub returns : goal.returns
 returns g c = puts_then g.met.O.Output.adds c.in_ok-put.ensures.puts (puts_as c.hex_pair.ensures c.put-2.ensures.puts)

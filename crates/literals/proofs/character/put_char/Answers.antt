@@ -1,9 +1,6 @@
 use Rattle.output.proofs.Pieces.{puts_then, puts_stop, puts_exit}
 use Rattle.literals.proofs.character.put_char.Goals as goal
 
-pub returns-in_err-put : goal.returns-in_err-put
-returns-in_err-put g c = puts_exit _ c.from_residual.ensures.0 (puts_stop _ c.in_err-put.ensures.puts)
-
 pub returns-in_err-put_char_body : goal.returns-in_err-put_char_body
 returns-in_err-put_char_body g c =
     puts_exit _ c.from_residual-in_err-put_char_body.ensures.0
