@@ -1,35 +1,40 @@
 //! Character tables as text.
-ghost use Rattle.std.specs.Prelude.{◌≡◌, [], IfOk};
+ghost use Rattle.std.specs.Prelude.{◌≡◌, [], ◌++◌, Some, IfOk, IfErr, codes};
+ghost use Rattle.anyhow.specs.Error.{HasMessage};
 ghost use Rattle.chars.specs.Ranges.{IsTable};
 ghost use Rattle.chars.specs.Searches.{Means};
 ghost use Rattle.inputs.specs.TableLines.{range_line, RangesRead};
 
-use crate::fields::{split_field, strip_byte};
+use crate::fields::{split_field, take_byte};
 use crate::hex::hex_number;
-use crate::lines::split_line;
+use crate::lines::Lines;
 use anyhow::anyhow;
 use chars::ranges::{Range, Ranges};
 use std::alloc::Global;
+use std::fs;
+use std::rt::Files;
 
 /// The range that a line of a table tells: `first last sets`, in hexadecimal and letters of `sch`.
 pub fn range_of_line(line: &[u8]) -> Option<Range>
     ensures { result ≡ range_line line.now }
 {
     let (first, rest) = split_field(line, b' ');
-    let (last, sets) = split_field(rest, b' ');
-    let (start, sets) = strip_byte(sets, b's');
-    let (continues, sets) = strip_byte(sets, b'c');
-    let (shown, sets) = strip_byte(sets, b'h');
-    match (hex_number(first), hex_number(last)) {
-        (Some(first), Some(last)) if sets.is_empty() => Some(Range {
-            first,
-            last,
-            start,
-            continues,
-            shown,
-        }),
-        _ => None,
-    }
+    let (last, mut sets) = split_field(rest, b' ');
+    let range = Range {
+        first: hex_number(first)?,
+        last: hex_number(last)?,
+        start: take_byte(&mut sets, b's'),
+        continues: take_byte(&mut sets, b'c'),
+        shown: take_byte(&mut sets, b'h'),
+    };
+    sets.is_empty().then_some(range)
+}
+
+/// The bytes of the file of a table.
+pub fn read_table_file(rt: &(impl Files + AllocGlobal), path: &str) -> anyhow::Result<Vec<u8>>
+    ensures { IfErr result (HasMessage (Some (codes "the table " ++ path.now ++ codes " cannot be read"))) }
+{
+    fs::read(rt, path).map_err(|_| anyhow!("the table {path} cannot be read"))
 }
 
 /// The ranges that the lines of a text tell, in their order.
@@ -38,17 +43,12 @@ pub fn read_ranges(heap: Global, text: &[u8]) -> anyhow::Result<Vec<Range>>
 {
     let mut ranges = Vec::new(heap);
     let mut number = 0u64;
-    let mut rest = text;
-    while !rest.is_empty() {
-        let (line, after) = split_line(rest);
+    for line in Lines::new(text) {
         number = number.saturating_add(1);
-        match range_of_line(line) {
-            Some(range) => ranges.push(range)?,
-            None => return Err(anyhow!(format!(in heap;
-                "line {number} of the table is no range"
-            )?)),
-        }
-        rest = after;
+        let Some(range) = range_of_line(line) else {
+            return Err(anyhow!("line {number} of the table is no range"));
+        };
+        ranges.push(range)?;
     }
     Ok(ranges)
 }
