@@ -8,9 +8,9 @@ use Rattle.words.specs.Escapes.{escaped_str}
 use Rattle.words.specs.Names.{identifier}
 use Rattle.words.specs.RawText.{unescaped_or_raw_str}
 use Rattle.words.specs.Refusals.{first_refusal, text_refusal, name_refusal}
-use Rattle.words.specs.Whole.{refused_or_short}
+use Rattle.words.specs.Whole.{refused_or_short, Shown}
 use Rattle.words.specs.declared.refusal.Refusal.{Refusal}
-use Rattle.batch_names.specs.Forms.{line_unless, forms, Shown, LinesReadBack, ShownReadsBack}
+use Rattle.batch_names.specs.Forms.{line_unless, forms, LinesReadBack, ShownReadsBack}
 
 -- where nothing refuses, the first reason does not
 not_first : (o p : Option Refusal) → first_refusal o p ≡ None → o ≡ None

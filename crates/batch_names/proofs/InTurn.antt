@@ -4,11 +4,9 @@ use Rattle.std.proofs.lemmas.Bool.{true≢false, false≢true}
 use Rattle.words.specs.Refusals.{unless}
 use Rattle.words.proofs.Writing.{writes_ok}
 use Rattle.words.specs.Writes.{Writes}
-use Rattle.words.specs.declared.name.Form.{Form}
 use Rattle.words.specs.declared.refusal.Refusal.{Refusal}
 use Rattle.batch_names.specs.Forms.{line_unless}
 use Rattle.batch_names.specs.Lines.{LF}
-use Rattle.batch_names.specs.Tally.{standing_of, standing_unless}
 
 module _ {X : Type 0} {room : X → ℕ} {took : X → List ℕ → X → Type 0} where
   -- where a word was written, another is not refused for the same reason
@@ -27,8 +25,3 @@ left_out (Some y) f r x e h = refl
 pub not_left_out : {A : Type 0} (o : Option Refusal) (f : A) (r : Result A Refusal) → r ≡ unless o f → false ≡ is_err r → o ≡ None
 not_left_out None f r e h = refl
 not_left_out (Some y) f r e h = absurd (false≢true (h ∙ ap is_err e))
-
--- how an accepted name stands
-pub stands : (o : Option Refusal) (f g : Form) → Ok f ≡ unless o g → standing_of f ≡ standing_unless o g
-stands None f g e = ap standing_of (cc)
-stands (Some y) f g e = let z : ◌≡◌ {A = ℕ} 0 1 = cc in absurd (omega arith)

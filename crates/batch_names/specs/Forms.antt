@@ -17,11 +17,6 @@ abbrev pub line_unless : Option Refusal → List ℕ → List ℕ
 line_unless None x = x ++ LF ∷ []
 line_unless (Some e) x = []
 
--- what is shown of a name: its forms, or why not
-abbrev pub Shown : Option Refusal → List ℕ → Result (Bor (List ℕ)) Refusal → Type 0
-Shown o x (Ok part) = (o ≡ None) × (part.now ≡ x)
-Shown o x (Err e) = o ≡ Some e
-
 module _ (starts continues shown : ℕ → Bool) where
   abbrev pub forms : List ℕ → List ℕ
   forms s =

@@ -34,19 +34,17 @@ fn run(rt: &HostRuntime) -> anyhow::Result<()> {
             print_all(rt, &table, memory.as_mut_slice(), input.as_slice())?
         }
     };
-    print_summary(rt, &summary)
+    println!(rt; "{summary}")?;
+    Ok(())
 }
 
 // The bytes that a name's forms may have: the first argument, if there is one.
 fn space(rt: &HostRuntime) -> anyhow::Result<usize> {
     match env::args(rt)?.nth(1) {
         None => Ok(SPACE),
-        Some(word) => match word.as_str().parse::<usize>() {
-            Ok(n) => Ok(n),
-            Err(_) => Err(anyhow!(
-                "the first argument is the number of bytes that the forms of a name may have"
-            )),
-        },
+        Some(word) => word.as_str().parse::<usize>().map_err(|_| {
+            anyhow!("the first argument is the number of bytes that the forms of a name may have")
+        }),
     }
 }
 
@@ -55,28 +53,4 @@ fn table_text(rt: &HostRuntime, path: &str) -> anyhow::Result<Vec<u8>> {
         Ok(text) => Ok(text),
         Err(_) => Err(anyhow!(format!(in rt.alloc(); "the table {path} cannot be read")?)),
     }
-}
-
-fn print_summary(rt: &HostRuntime, summary: &Summary) -> anyhow::Result<()> {
-    let Summary {
-        names,
-        bytes,
-        escaped,
-        bare,
-        raw,
-        no_name,
-        not_utf8,
-        too_long,
-        no_space,
-    } = *summary;
-    println!(rt; "names read: {names}")?;
-    println!(rt; "bytes written: {bytes}")?;
-    println!(rt; "stand bare: {bare}")?;
-    println!(rt; "stand behind r#: {raw}")?;
-    println!(rt; "needed escapes: {escaped}")?;
-    println!(rt; "refused 6, no name: {no_name}")?;
-    println!(rt; "refused 7, not UTF-8: {not_utf8}")?;
-    println!(rt; "refused 10, over 65535 bytes: {too_long}")?;
-    println!(rt; "refused 19, forms exceed the space: {no_space}")?;
-    Ok(())
 }
