@@ -1,42 +1,39 @@
--- How far a search for a separator has come.
-use Rattle.std.proofs.Common.{◌≡◌, ℕ, suc, ◌+◌, ◌-◌, ◌<◌, ◌≤◌, Bool, true, false, cond, eqb, ltb, List, [], ◌∷◌, ◌++◌, length, get_or, take, drop, sym, refl, ap, ◌∙◌, append_assoc, append-nil, arith}
-use Rattle.std.proofs.lemmas.List.{take_more, take_all, take_rest, at_drop_more, at_drop_all}
-use Rattle.std.proofs.lemmas.Bool.{and_from, lt-ltb, eq-eqb, ne_eqb, cond-true, cond-false}
+-- Where the first separator stands.
+use Rattle.std.proofs.Common.{◌≡◌, ℕ, ◌+◌, ◌-◌, ◌<◌, ◌≤◌, true, eqb, ltb, List, [], ◌∷◌, ◌++◌, length, get_or, take, drop, Some, None, sym, ap, ◌∙◌, arith, length-drop}
+use Rattle.std.specs.List.{position, position_or_len}
+use Rattle.std.proofs.lemmas.List.{take_rest, take_all, drop_all}
+use Rattle.std.proofs.lemmas.List.Quantifiers.{position-Some}
+use Rattle.std.proofs.lemmas.List.Sums.{position_or_len_is, split_at_first}
+use Rattle.std.proofs.lemmas.Bool.{and_from, lt-ltb, eq-eqb, cond-true}
+use Rattle.std.proofs.lemmas.Bool.Decides.{nat_tests}
+use borrow.Author.Tests.{eqb-true}
 use Rattle.inputs.specs.Fields.{before, behind, led, past}
 
--- no separator stands in the first i bytes
-pub record Parting (sep : ℕ) (s : List ℕ) (i : ℕ) : Type 0 where
-  pub front : take i s ++ before sep (drop i s) ≡ before sep s
-  pub rest : behind sep (drop i s) ≡ behind sep s
+-- what is cut off at the first separator
+pub record Found (sep : ℕ) (s : List ℕ) (i : ℕ) : Type 0 where
+  pub field : take i s ≡ before sep s
+  pub rest : take (length s - (i + 1)) (drop (i + 1) s) ≡ behind sep s
+  pub whole : s ≡ take i s ++ sep ∷ take (length s - (i + 1)) (drop (i + 1) s)
 
-pub parting_none : (sep : ℕ) (s : List ℕ) → Parting sep s 0
-parting_none sep s = record { front = refl; rest = refl }
-
-pub parting_more : (sep : ℕ) (s : List ℕ) (i : ℕ) → i < length s → (get_or s i 0 ≡ sep → ⊥) → Parting sep s i → Parting sep s (i + 1)
-parting_more sep s i l n p =
-    let c = get_or s i 0 in
-    let later = drop (i + 1) s in
+pub found : (sep : ℕ) (s : List ℕ) (i : ℕ) → position (λ c. eqb c sep) s ≡ Some i → Found sep s i
+found sep s i e =
+    let p = λ (c : ℕ). eqb c sep in
+    let h = position-Some p s i 0 e in
+    let first : position_or_len p s ≡ i = position_or_len_is p s i 0 (omega (arith, h.0)) h.2 (λ _. h.1) in
+    let rest : take (length s - (i + 1)) (drop (i + 1) s) ≡ behind sep s = take_rest s (i + 1) ∙ ap (λ n. drop (n + 1) s) (sym first) in
     record {
-      front =
-          ap (λ z. z ++ before sep later) (take_more s i 0 l) ∙ append_assoc (take i s) (c ∷ []) (before sep later)
-          ∙ ap (λ z. take i s ++ z) (sym (at_drop_more (before sep) s i 0 l ∙ cond-false (eqb c sep) [] _ (ne_eqb c sep n))) ∙ p.front;
-      rest = sym (at_drop_more (behind sep) s i 0 l ∙ cond-false (eqb c sep) later _ (ne_eqb c sep n)) ∙ p.rest;
+      field = ap (λ n. take n s) (sym first);
+      rest = rest;
+      whole =
+          split_at_first p s 0 (omega (arith, h.0, first)) ∙ ap (λ n. take n s ++ get_or s n 0 ∷ drop (n + 1) s) first
+          ∙ ap (λ c. take i s ++ c ∷ drop (i + 1) s) (eqb-true (get_or s i 0) sep h.1) ∙ ap (λ z. take i s ++ sep ∷ z) (sym (take_rest s (i + 1)));
     }
 
-module _ (sep : ℕ) (s : List ℕ) (i : ℕ) (l : i < length s) (e : get_or s i 0 ≡ sep) (p : Parting sep s i) where
-  pub field_found : take i s ≡ before sep s
-  field_found =
-      sym (append-nil (take i s)) ∙ ap (λ z. take i s ++ z) (sym (at_drop_more (before sep) s i 0 l ∙ cond-true (eqb (get_or s i 0) sep) [] _ (eq-eqb (get_or s i 0) sep e))) ∙ p.front
-
-  pub rest_found : take (length s - (i + 1)) (drop (i + 1) s) ≡ behind sep s
-  rest_found = take_rest s (i + 1) ∙ sym (at_drop_more (behind sep) s i 0 l ∙ cond-true (eqb (get_or s i 0) sep) _ _ (eq-eqb (get_or s i 0) sep e)) ∙ p.rest
-
-module _ (sep : ℕ) (s : List ℕ) (i : ℕ) (l : length s ≤ i) (p : Parting sep s i) where
-  pub field_all : s ≡ before sep s
-  field_all = sym (append-nil s) ∙ ap (λ z. z ++ []) (sym (take_all i s l)) ∙ ap (λ z. take i s ++ z) (sym (at_drop_all (before sep) s i l)) ∙ p.front
-
-  pub rest_none : [] ≡ behind sep s
-  rest_none = sym (at_drop_all (behind sep) s i l) ∙ p.rest
+pub not_found : (sep : ℕ) (s : List ℕ) → position (λ c. eqb c sep) s ≡ None → (s ≡ before sep s) × ([] ≡ behind sep s)
+not_found sep s e =
+    let p = λ (c : ℕ). eqb c sep in
+    let l : length s ≤ position_or_len p s = grind (arith, nat_tests) in
+    (sym (take_all (position_or_len p s) s l), sym (drop_all (position_or_len p s + 1) s (omega arith)))
 
 module _ (b : ℕ) (s : List ℕ) (l : 0 < length s) (e : get_or s 0 0 ≡ b) where
   pub led_here : true ≡ led b s
@@ -46,14 +43,5 @@ module _ (b : ℕ) (s : List ℕ) (l : 0 < length s) (e : get_or s 0 0 ≡ b) wh
   past_here = take_rest s 1 ∙ sym (cond-true (led b s) (drop 1 s) s (sym led_here))
 
 -- what is behind a separator is less than there was
-less : (t : Bool) (x y : List ℕ) → length y ≤ length x → length (cond t x y) < suc (length x)
-less true x y h = omega arith
-less false x y h = omega (arith, h)
-
-behind_at_most : (sep : ℕ) (s : List ℕ) → length (behind sep s) ≤ length s
-behind_at_most sep [] = omega arith
-behind_at_most sep (c ∷ s) = omega (arith, less (eqb c sep) s (behind sep s) (behind_at_most sep s))
-
 pub behind_shorter : (sep : ℕ) (s : List ℕ) → 0 < length s → length (behind sep s) < length s
-behind_shorter sep [] l = absurd (omega (arith, l))
-behind_shorter sep (c ∷ s) l = less (eqb c sep) s (behind sep s) (behind_at_most sep s)
+behind_shorter sep s l = omega (arith, length-drop (position_or_len (λ c. eqb c sep) s + 1) s)

@@ -1,6 +1,7 @@
 -- Lines: how bytes are cut into a first line, without its end, and the rest.
 -- A line ends at LF, or at CR and LF; the last line may end with the bytes. Assumes nothing.
-use Rattle.std.specs.Prelude.{◌≡◌, ℕ, ◌<◌, Bool, true, false, not, ◌&&◌, List, [], ◌∷◌, ◌++◌, length, ◌==◌}
+use Rattle.std.specs.Prelude.{◌≡◌, ℕ, ◌<◌, Bool, true, false, not, ◌&&◌, List, [], ◌∷◌, ◌++◌, length, Option, MatchOption, ◌==◌}
+use Rattle.std.specs.Borrow.{Bor}
 
 abbrev pub LF : ℕ
 LF = 0x0A
@@ -27,3 +28,7 @@ pub data Cut (s line rest : List ℕ) : Type 0 where
 pub data LinesRead (s : List ℕ) : List (List ℕ) → List ℕ → Type 0 where
   no_line : LinesRead s [] s
   next_line : {lines : List (List ℕ)} {left line rest : List ℕ} → LinesRead s lines left → 0 < length left → Cut left line rest → LinesRead s (line ∷ lines) rest
+
+-- one line more was given of these bytes and the rest is left, or there was none left to give
+abbrev pub GivesLine : List ℕ → Option (Bor (List ℕ)) → List ℕ → Type 0
+GivesLine s given rest = MatchOption given ((s ≡ []) × (rest ≡ [])) (λ line. (0 < length s) × Cut s line.now rest)

@@ -1,18 +1,22 @@
 //! Fields of bytes.
-ghost use Rattle.std.specs.Prelude.{◌≡◌};
+ghost use Rattle.std.specs.Prelude.{◌≡◌, [], ◌∷◌, ◌++◌, IfSome, IfNone};
 ghost use Rattle.inputs.specs.Fields.{before, behind, led, past};
+
+/// The bytes before the first separator, and those behind it.
+pub(crate) fn split_once(bytes: &[u8], sep: u8) -> Option<(&[u8], &[u8])>
+    ensures some { IfSome result (λ p. (p.0.now ≡ before sep bytes.now) × (p.1.now ≡ behind sep bytes.now) × (bytes.now ≡ p.0.now ++ sep ∷ p.1.now)) }
+    ensures none { IfNone result ((bytes.now ≡ before sep bytes.now) × ([] ≡ behind sep bytes.now)) }
+{
+    let place = bytes.iter().position(|b| *b == sep)?;
+    Some((&bytes[..place], &bytes[place + 1..]))
+}
 
 /// The bytes before the first separator, and those behind it. Without a separator that is all, and nothing.
 pub fn split_field(bytes: &[u8], sep: u8) -> (&[u8], &[u8])
     ensures field { result.0.now ≡ before sep bytes.now }
     ensures rest { result.1.now ≡ behind sep bytes.now }
 {
-    for (i, b) in bytes.iter().enumerate() {
-        if *b == sep {
-            return (&bytes[..i], &bytes[i + 1..]);
-        }
-    }
-    (bytes, &[])
+    split_once(bytes, sep).unwrap_or((bytes, &[]))
 }
 
 /// The bytes without this one in front, if they begin with it.

@@ -1,15 +1,18 @@
 //! Character tables as text.
-ghost use Rattle.std.specs.Prelude.{◌≡◌, [], IfOk};
+ghost use Rattle.std.specs.Prelude.{◌≡◌, [], ◌++◌, Some, IfOk, IfErr, codes};
+ghost use Rattle.anyhow.specs.Error.{HasMessage};
 ghost use Rattle.chars.specs.Ranges.{IsTable};
 ghost use Rattle.chars.specs.Searches.{Means};
 ghost use Rattle.inputs.specs.TableLines.{range_line, RangesRead};
 
 use crate::fields::{split_field, strip_byte};
 use crate::hex::hex_number;
-use crate::lines::split_line;
+use crate::lines::Lines;
 use anyhow::anyhow;
 use chars::ranges::{Range, Ranges};
 use std::alloc::Global;
+use std::fs;
+use std::rt::Files;
 
 /// The range that a line of a table tells: `first last sets`, in hexadecimal and letters of `sch`.
 pub fn range_of_line(line: &[u8]) -> Option<Range>
@@ -32,23 +35,25 @@ pub fn range_of_line(line: &[u8]) -> Option<Range>
     }
 }
 
+/// The bytes of the file of a table.
+pub fn read_table_file(rt: &(impl Files + AllocGlobal), path: &str) -> anyhow::Result<Vec<u8>>
+    ensures { IfErr result (HasMessage (Some (codes "the table " ++ path.now ++ codes " cannot be read"))) }
+{
+    fs::read(rt, path).map_err(|_| anyhow!("the table {path} cannot be read"))
+}
+
 /// The ranges that the lines of a text tell, in their order.
 pub fn read_ranges(heap: Global, text: &[u8]) -> anyhow::Result<Vec<Range>>
     ensures { IfOk result (λ v. RangesRead text.now v.items []) }
 {
     let mut ranges = Vec::new(heap);
     let mut number = 0u64;
-    let mut rest = text;
-    while !rest.is_empty() {
-        let (line, after) = split_line(rest);
+    for line in Lines::new(text) {
         number = number.saturating_add(1);
-        match range_of_line(line) {
-            Some(range) => ranges.push(range)?,
-            None => return Err(anyhow!(format!(in heap;
-                "line {number} of the table is no range"
-            )?)),
-        }
-        rest = after;
+        let Some(range) = range_of_line(line) else {
+            return Err(anyhow!("line {number} of the table is no range"));
+        };
+        ranges.push(range)?;
     }
     Ok(ranges)
 }

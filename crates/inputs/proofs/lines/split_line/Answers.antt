@@ -1,22 +1,18 @@
-use Rattle.std.proofs.Common.{ap, ◌∙◌, rules}
-use Rattle.inputs.specs.Lines.{one_line}
-use Rattle.inputs.proofs.Cuts.{cut_at_end, cut_at_cr_lf, cut_at_lf, first_lf}
+use Rattle.std.proofs.Common.{[], ◌∷◌, sym, refl, ap, ◌∙◌, subst}
+use Rattle.std.proofs.lemmas.Bool.Decides.{Decides-eqb}
+use Rattle.std.proofs.lemmas.Slice.Eq.{strip_suffix_is}
+use Rattle.inputs.specs.Lines.{CR, one_line, Cut, at_end}
+use Rattle.inputs.proofs.Cuts.{one_line_before, cut_at_lf}
 use Rattle.inputs.proofs.lines.split_line.Goals as goal
 
-pub returns-in-empty : goal.returns-in-empty
-returns-in-empty c =
-    cut_at_end c.args.bytes.now c.split_at.result.0.now c.split_at.result.1.now c.split_at.ensures.by_index.0
-    (ap one_line c.split_at.ensures.front ∙ c.line_len.ensures.line) (search rules)
+pub returns-in-Some : goal.returns-in-Some
+returns-in-Some c =
+    let found = c.in-Some.ensures.some in
+    subst (λ line. Cut c.args.bytes.now line.now c.in-Some.after.now) (sym c.unwrap_or.ensures)
+    (cut_at_lf c.args.bytes.now c.in-Some.after.now c.in-Some.line c.strip_suffix.result found.2 (ap one_line found.0 ∙ one_line_before c.args.bytes.now)
+    (strip_suffix_is Decides-eqb c.in-Some.line.now (CR ∷ []) c.strip_suffix.result c.strip_suffix.ensures.cases))
 
-pub returns-in-13 : goal.returns-in-13
-returns-in-13 c =
-    let cut = cut_at_cr_lf c.args.bytes.now c.split_at.result.0.now c.split_at.result.1.now c.split_at.ensures.by_index.0
-    (ap one_line c.split_at.ensures.front ∙ c.line_len.ensures.line) (search rules)
-    (first_lf c.args.bytes.now _ _ c.split_at.ensures.back c.line_len.ensures.found (search rules)) (search rules) (search rules) in
-    search rules
-
-pub returns-in_default : goal.returns-in_default
-returns-in_default c =
-    cut_at_lf c.args.bytes.now c.split_at.result.0.now c.split_at.result.1.now c.split_at.ensures.by_index.0
-    (ap one_line c.split_at.ensures.front ∙ c.line_len.ensures.line) (search rules)
-    (first_lf c.args.bytes.now _ _ c.split_at.ensures.back c.line_len.ensures.found (search rules)) (λ k e. search rules)
+pub returns-in-None : goal.returns-in-None
+returns-in-None c =
+    let e = c.in-None.ensures.none.0 in
+    at_end (ap one_line e ∙ one_line_before c.args.bytes.now) refl refl
