@@ -1,12 +1,12 @@
 -- Words one after another in a row, the second of them only where the first was accepted.
-use Rattle.std.proofs.Common.{◌≡◌, ℕ, true, false, List, [], ◌∷◌, ◌++◌, is_err, Some, None, Ok, Option, Result, sym, refl, ap, ◌∙◌, subst, arith}
+use Rattle.std.proofs.Common.{◌≡◌, ℕ, true, false, List, [], ◌∷◌, ◌++◌, is_err, Some, None, Ok, Option, Result, sym, refl, ap, ◌∙◌, subst}
 use Rattle.std.proofs.lemmas.Bool.{true≢false, false≢true}
 use Rattle.words.specs.Refusals.{unless}
 use Rattle.words.proofs.Writing.{writes_ok}
 use Rattle.words.specs.Writes.{Writes}
 use Rattle.words.specs.declared.refusal.Refusal.{Refusal}
 use Rattle.batch_names.specs.Forms.{line_unless}
-use Rattle.batch_names.specs.Lines.{LF}
+use Rattle.inputs.specs.Lines.{LF}
 
 module _ {X : Type 0} {room : X → ℕ} {took : X → List ℕ → X → Type 0} where
   -- where a word was written, another is not refused for the same reason

@@ -10,7 +10,7 @@ use Rattle.words.specs.Names.{identifier}
 use Rattle.words.specs.RawText.{unescaped_or_raw_str}
 use Rattle.words.specs.Refusals.{name_refusal}
 use Rattle.words.specs.declared.refusal.Refusal.{Refusal}
-use Rattle.batch_names.specs.Lines.{LF}
+use Rattle.inputs.specs.Lines.{LF}
 
 -- a line of its own, or none for what is refused
 abbrev pub line_unless : Option Refusal → List ℕ → List ℕ

@@ -5,12 +5,11 @@ use crate::rows::print_all;
 use crate::summary::Summary;
 use anyhow::anyhow;
 use chars::table::Ascii;
-use inputs::tables::{read_ranges, table_of};
+use inputs::tables::{read_ranges, read_table_file, table_of};
+use std::env;
 use std::io::Read;
-use std::{env, fs};
 
 mod forms;
-mod lines;
 mod rows;
 mod summary;
 
@@ -28,7 +27,7 @@ fn run(rt: &HostRuntime) -> anyhow::Result<()> {
     let summary = match env::args(rt)?.nth(2) {
         None => print_all(rt, &Ascii, memory.as_mut_slice(), input.as_slice())?,
         Some(path) => {
-            let text = table_text(rt, path.as_str())?;
+            let text = read_table_file(rt, path.as_str())?;
             let ranges = read_ranges(rt.alloc(), text.as_slice())?;
             let table = table_of(ranges.as_slice())?;
             print_all(rt, &table, memory.as_mut_slice(), input.as_slice())?
@@ -45,12 +44,5 @@ fn space(rt: &HostRuntime) -> anyhow::Result<usize> {
         Some(word) => word.as_str().parse::<usize>().map_err(|_| {
             anyhow!("the first argument is the number of bytes that the forms of a name may have")
         }),
-    }
-}
-
-fn table_text(rt: &HostRuntime, path: &str) -> anyhow::Result<Vec<u8>> {
-    match fs::read(rt, path) {
-        Ok(text) => Ok(text),
-        Err(_) => Err(anyhow!(format!(in rt.alloc(); "the table {path} cannot be read")?)),
     }
 }

@@ -1,13 +1,13 @@
 //! Each name with its forms, or with the number and the reason of its refusal.
 ghost use Rattle.std.specs.Prelude.{◌≡◌, ℕ, ◌^◌, min, List, [], map, length, IfOk};
-ghost use Rattle.batch_names.specs.Lines.{LinesRead};
+ghost use Rattle.inputs.specs.Lines.{LinesRead};
 ghost use Rattle.batch_names.specs.Tally.{outcome, Sums};
 
 use crate::forms::shown_forms;
-use crate::lines::split_line;
 use crate::summary::{Summary, Written};
 use chars::table::CharTable;
 use chars::utf8::malformed_at;
+use inputs::lines::Lines;
 use std::fmt;
 use std::io::Write;
 use words::class::{Class, is_text_of};
@@ -24,14 +24,8 @@ pub fn print_all<T: CharTable>(
     ensures { IfOk result (λ s. (lines : List (List ℕ)) × LinesRead input.now lines [] × Sums (map (outcome (T.starts table.now) (T.continues table.now) (T.shown table.now) (min (length memory.old) (2 ^ 30))) lines) s) }
 {
     let mut summary = Summary::new();
-    let mut number = 0u64;
-    let mut rest = input;
-    while !rest.is_empty() {
-        let (line, after) = split_line(rest);
-        number = number.saturating_add(1);
-        let outcome = print_row(rt, table, memory, number, line)?;
-        summary.add(outcome);
-        rest = after;
+    for (i, line) in Lines::new(input).enumerate() {
+        summary.add(print_row(rt, table, memory, i + 1, line)?);
     }
     Ok(summary)
 }
@@ -41,7 +35,7 @@ fn print_row<T: CharTable>(
     rt: &HostRuntime,
     table: &T,
     memory: &mut [u8],
-    number: u64,
+    number: usize,
     name: &[u8],
 ) -> anyhow::Result<Result<Written, Refusal>>
     ensures { IfOk result (λ o. o ≡ outcome (T.starts table.now) (T.continues table.now) (T.shown table.now) (min (length memory.old) (2 ^ 30)) name.now) }

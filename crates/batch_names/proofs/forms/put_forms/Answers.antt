@@ -8,11 +8,6 @@ pub returns-in_err-serialize_escaped_str : goal.returns-in_err-serialize_escaped
 returns-in_err-serialize_escaped_str g c =
     writes_stop _ (exits _ _ c.from_residual.ensures.1) c.in_err-serialize_escaped_str.ensures
 
-pub returns-in_err-put : goal.returns-in_err-put
-returns-in_err-put g c =
-    writes_then g.O.Output.adds c.in_ok-serialize_escaped_str.ensures
-    (writes_stop _ (exits _ _ c.from_residual-in_err-put.ensures.1) (writes_short refl c.in_err-put.ensures.puts))
-
 pub returns-in_err-serialize_unescaped_or_raw_str : goal.returns-in_err-serialize_unescaped_or_raw_str
 returns-in_err-serialize_unescaped_or_raw_str g c =
     let w = c.in_ok-serialize_escaped_str.ensures in
