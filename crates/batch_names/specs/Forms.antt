@@ -1,7 +1,6 @@
 -- The forms of a batch name that the program prints, a line each: its escaped literal, its literal without escapes, and its name.
 -- Assumes nothing.
-use Rattle.std.specs.Prelude.{◌≡◌, ℕ, Bool, List, [], ◌∷◌, ◌++◌, Some, None, Ok, Err, Option, Result}
-use Rattle.std.specs.Borrow.{Bor}
+use Rattle.std.specs.Prelude.{◌≡◌, ℕ, Bool, List, [], ◌∷◌, ◌++◌, Some, None, Option}
 use Rattle.chars.specs.Utf8.{decoded}
 use Rattle.grammar.specs.Readings.{ReadsOnly}
 use Rattle.grammar.specs.Trees.{a_name, a_text}
@@ -32,7 +31,3 @@ module _ (starts continues shown : ℕ → Bool) where
     pub escaped_reads : ReadsOnly starts continues escaped (a_text (decoded s))
     pub plain_reads : ReadsOnly starts continues plain (a_text (decoded s))
     pub last_reads : name_refusal continues s ≡ None → (x : List ℕ) × (last ≡ x ++ LF ∷ []) × ReadsOnly starts continues x (a_name (decoded s))
-
-  abbrev pub ShownReadsBack : List ℕ → Result (Bor (List ℕ)) Refusal → Type 0
-  ShownReadsBack s (Ok part) = LinesReadBack s part.now
-  ShownReadsBack s (Err e) = Unit {0}

@@ -1,6 +1,6 @@
 //! The forms of a batch name, as RON text.
-ghost use Rattle.std.specs.Prelude.{◌^◌, min, length, None};
-ghost use Rattle.batch_names.specs.Forms.{line_unless, forms, ShownReadsBack};
+ghost use Rattle.std.specs.Prelude.{◌^◌, min, length, None, IfOk};
+ghost use Rattle.batch_names.specs.Forms.{line_unless, forms, LinesReadBack};
 ghost use Rattle.chars.specs.Utf8.{decoded};
 ghost use Rattle.words.specs.Names.{identifier};
 ghost use Rattle.words.specs.Refusals.{text_refusal, name_refusal};
@@ -65,8 +65,8 @@ pub fn shown_forms<'m, T: CharTable>(
     table: &T,
     name: &[u8],
 ) -> Result<&'m [u8], Refusal>
-    ensures shown { Shown (refused_or_short (text_refusal name.now) (forms (T.starts table.now) (T.continues table.now) (T.shown table.now) name.now) (min (length memory.old) (2 ^ 30))) (forms (T.starts table.now) (T.continues table.now) (T.shown table.now) name.now) result }
-    ensures back { ShownReadsBack (T.starts table.now) (T.continues table.now) (T.shown table.now) name.now result }
+    ensures shown { let lines = forms (T.starts table.now) (T.continues table.now) (T.shown table.now) name.now in Shown (refused_or_short (text_refusal name.now) lines (min (length memory.old) (2 ^ 30))) lines result }
+    ensures back { IfOk result (λ lines. LinesReadBack (T.starts table.now) (T.continues table.now) (T.shown table.now) name.now lines.now) }
 {
     // These two do nothing; that what is shown reads back as the name rests on what they promise.
     literals_read_back(table);

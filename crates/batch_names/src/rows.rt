@@ -46,7 +46,9 @@ fn print_row<T: CharTable>(
             rt.stdout().write_all(forms)?;
             let form = identifier_form(table, name).ok();
             if form.is_none() {
-                print_reason(rt, Refusal::InvalidIdentifier, name)?;
+                let refusal = Refusal::InvalidIdentifier;
+                let reason = Reason { refusal, name };
+                println!(rt; "{reason}")?;
             }
             Ok(Ok(Written {
                 bytes: forms.len(),
@@ -55,16 +57,11 @@ fn print_row<T: CharTable>(
             }))
         }
         Err(refusal) => {
-            print_reason(rt, refusal, name)?;
+            let reason = Reason { refusal, name };
+            println!(rt; "{reason}")?;
             Ok(Err(refusal))
         }
     }
-}
-
-fn print_reason(rt: &HostRuntime, refusal: Refusal, name: &[u8]) -> anyhow::Result<()> {
-    let reason = Reason { refusal, name };
-    println!(rt; "{reason}")?;
-    Ok(())
 }
 
 // A refusal as it is printed: its number and its reason, and of bytes that are not UTF-8 also where they begin.
@@ -74,7 +71,7 @@ struct Reason<'a> {
     name: &'a [u8],
 }
 
-impl<'a> fmt::Display for Reason<'a> {
+impl fmt::Display for Reason<'_> {
     fn fmt<W: fmt::Write>(&self, f: &mut fmt::Formatter<W>) -> fmt::Result {
         let number = self.refusal.number();
         write!(f, "refused {number}: ")?;
