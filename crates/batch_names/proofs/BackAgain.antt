@@ -1,5 +1,5 @@
 -- What is shown of a name reads back as the name.
-use Rattle.std.proofs.Common.{◌≡◌, ℕ, Bool, List, Some, None, Ok, Err, Option, Result, sym, refl, ap, subst, arith, Bor}
+use Rattle.std.proofs.Common.{◌≡◌, ℕ, Bool, List, Some, None, Ok, Option, Result, sym, refl, ap, subst}
 use Rattle.chars.specs.Utf8.{decoded}
 use Rattle.grammar.specs.ReadBack.{ReadsBack, LiteralsReadBack}
 use Rattle.grammar.specs.Readings.{ReadsOnly, NoTextHasTwoReadings}
@@ -7,15 +7,15 @@ use Rattle.grammar.specs.Trees.{Tree}
 use Rattle.words.specs.Escapes.{escaped_str}
 use Rattle.words.specs.Names.{identifier}
 use Rattle.words.specs.RawText.{unescaped_or_raw_str}
-use Rattle.words.specs.Refusals.{first_refusal, text_refusal, name_refusal}
+use Rattle.words.specs.Refusals.{first_refusal, text_refusal, name_refusal, unless}
 use Rattle.words.specs.Whole.{refused_or_short}
 use Rattle.words.specs.declared.refusal.Refusal.{Refusal}
-use Rattle.batch_names.specs.Forms.{line_unless, forms, Shown, LinesReadBack, ShownReadsBack}
+use Rattle.batch_names.specs.Forms.{line_unless, forms, LinesReadBack}
 
 -- where nothing refuses, the first reason does not
-not_first : (o p : Option Refusal) → first_refusal o p ≡ None → o ≡ None
+not_first : (o p : Option Refusal) {u : Unit {0}} → ◌≡◌ {A = Result (Unit {0}) Refusal} (Ok u) (unless (first_refusal o p) tt) → o ≡ None
 not_first None p h = refl
-not_first (Some e) p h = let z : ◌≡◌ {A = ℕ} 0 1 = cc h in absurd (omega arith)
+not_first (Some e) p h = cc
 
 module _ (starts continues shown : ℕ → Bool) (back : LiteralsReadBack starts continues shown) (once : NoTextHasTwoReadings starts continues) where
   only : {x : List ℕ} {t : Tree} → ReadsBack starts continues x t → ReadsOnly starts continues x t
@@ -32,6 +32,6 @@ module _ (starts continues shown : ℕ → Bool) (back : LiteralsReadBack starts
     last_reads = λ n. (identifier starts continues (decoded s), ap (λ o. line_unless o (identifier starts continues (decoded s))) n, only (back.name_items s n));
   }
 
-  pub shown_back : (s : List ℕ) (n : ℕ) (r : Result (Bor (List ℕ)) Refusal) → Shown (refused_or_short (text_refusal s) (forms starts continues shown s) n) (forms starts continues shown s) r → ShownReadsBack starts continues shown s r
-  shown_back s n (Ok part) h = subst (LinesReadBack starts continues shown s) (sym h.1) (forms_back s (not_first (text_refusal s) _ h.0))
-  shown_back s n (Err e) h = tt
+  pub written_back : (s : List ℕ) (n : ℕ) {u : Unit {0}} (lines : List ℕ) → ◌≡◌ {A = Result (Unit {0}) Refusal} (Ok u) (unless (refused_or_short (text_refusal s) (forms starts continues shown s) n) tt)
+      → lines ≡ forms starts continues shown s → LinesReadBack starts continues shown s lines
+  written_back s n lines h e = subst (LinesReadBack starts continues shown s) (sym e) (forms_back s (not_first (text_refusal s) _ h))

@@ -1,3 +1,2 @@
 mod BackAgain
-mod Cuts
 mod InTurn

@@ -1,7 +1,6 @@
 -- The forms of a batch name that the program prints, a line each: its escaped literal, its literal without escapes, and its name.
 -- Assumes nothing.
-use Rattle.std.specs.Prelude.{◌≡◌, ℕ, Bool, List, [], ◌∷◌, ◌++◌, Some, None, Ok, Err, Option, Result}
-use Rattle.std.specs.Borrow.{Bor}
+use Rattle.std.specs.Prelude.{◌≡◌, ℕ, Bool, List, [], ◌∷◌, ◌++◌, Some, None, Option}
 use Rattle.chars.specs.Utf8.{decoded}
 use Rattle.grammar.specs.Readings.{ReadsOnly}
 use Rattle.grammar.specs.Trees.{a_name, a_text}
@@ -10,17 +9,12 @@ use Rattle.words.specs.Names.{identifier}
 use Rattle.words.specs.RawText.{unescaped_or_raw_str}
 use Rattle.words.specs.Refusals.{name_refusal}
 use Rattle.words.specs.declared.refusal.Refusal.{Refusal}
-use Rattle.batch_names.specs.Lines.{LF}
+use Rattle.inputs.specs.Lines.{LF}
 
 -- a line of its own, or none for what is refused
 abbrev pub line_unless : Option Refusal → List ℕ → List ℕ
 line_unless None x = x ++ LF ∷ []
 line_unless (Some e) x = []
-
--- what is shown of a name: its forms, or why not
-abbrev pub Shown : Option Refusal → List ℕ → Result (Bor (List ℕ)) Refusal → Type 0
-Shown o x (Ok part) = (o ≡ None) × (part.now ≡ x)
-Shown o x (Err e) = o ≡ Some e
 
 module _ (starts continues shown : ℕ → Bool) where
   abbrev pub forms : List ℕ → List ℕ
@@ -37,7 +31,3 @@ module _ (starts continues shown : ℕ → Bool) where
     pub escaped_reads : ReadsOnly starts continues escaped (a_text (decoded s))
     pub plain_reads : ReadsOnly starts continues plain (a_text (decoded s))
     pub last_reads : name_refusal continues s ≡ None → (x : List ℕ) × (last ≡ x ++ LF ∷ []) × ReadsOnly starts continues x (a_name (decoded s))
-
-  abbrev pub ShownReadsBack : List ℕ → Result (Bor (List ℕ)) Refusal → Type 0
-  ShownReadsBack s (Ok part) = LinesReadBack s part.now
-  ShownReadsBack s (Err e) = Unit {0}

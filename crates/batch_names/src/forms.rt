@@ -1,10 +1,10 @@
 //! The forms of a batch name, as RON text.
-ghost use Rattle.std.specs.Prelude.{◌^◌, min, length, None};
-ghost use Rattle.batch_names.specs.Forms.{line_unless, forms, Shown, ShownReadsBack};
+ghost use Rattle.std.specs.Prelude.{◌^◌, min, length, None, IfOk};
+ghost use Rattle.batch_names.specs.Forms.{line_unless, forms, LinesReadBack};
 ghost use Rattle.chars.specs.Utf8.{decoded};
 ghost use Rattle.words.specs.Names.{identifier};
 ghost use Rattle.words.specs.Refusals.{text_refusal, name_refusal};
-ghost use Rattle.words.specs.Whole.{Whole, refused_or_short};
+ghost use Rattle.words.specs.Whole.{Whole, Shown, refused_or_short};
 ghost use Rattle.words.specs.Writes.{Writes};
 
 use chars::table::CharTable;
@@ -13,7 +13,7 @@ use grammar::read_back::literals_read_back;
 use output::buffer::{Buffer, text};
 use output::gauge::Gauge;
 use output::{Output, Sink};
-use words::name::{identifier_form, write_identifier};
+use words::name::{validate_identifier, write_identifier};
 use words::raw::serialize_unescaped_or_raw_str;
 use words::refusal::Refusal;
 use words::text::serialize_escaped_str;
@@ -24,9 +24,9 @@ fn put_name_line<O: Output, T: CharTable>(
     table: &T,
     name: &[u8],
 ) -> Result<(), Refusal>
-    ensures { Writes O.Output.room O.Output.took None out.old (line_unless (name_refusal (T.CharTable.continues table.now) name.now) (identifier (T.CharTable.starts table.now) (T.CharTable.continues table.now) (decoded name.now))) result out.new }
+    ensures { Writes O.room O.took None out.old (line_unless (name_refusal (T.continues table.now) name.now) (identifier (T.starts table.now) (T.continues table.now) (decoded name.now))) result out.new }
 {
-    if identifier_form(table, name).is_err() {
+    if validate_identifier(table, name).is_err() {
         return Ok(());
     }
     write_identifier(out, table, name)?;
@@ -36,7 +36,7 @@ fn put_name_line<O: Output, T: CharTable>(
 
 // The forms of a name, a line each.
 fn put_forms<O: Output, T: CharTable>(out: &mut O, table: &T, name: &[u8]) -> Result<(), Refusal>
-    ensures { Writes O.Output.room O.Output.took (text_refusal name.now) out.old (forms (T.CharTable.starts table.now) (T.CharTable.continues table.now) (T.CharTable.shown table.now) name.now) result out.new }
+    ensures { Writes O.room O.took (text_refusal name.now) out.old (forms (T.starts table.now) (T.continues table.now) (T.shown table.now) name.now) result out.new }
 {
     serialize_escaped_str(out, table, name)?;
     out.put(b"\n")?;
@@ -51,25 +51,11 @@ pub fn write_forms<S: Sink, T: CharTable>(
     table: &T,
     name: &[u8],
 ) -> Result<(), Refusal>
-    ensures { Whole S.Sink.text S.Sink.space S.Sink.keeps (text_refusal name.now) sink.old (forms (T.CharTable.starts table.now) (T.CharTable.continues table.now) (T.CharTable.shown table.now) name.now) result sink.new }
+    ensures { Whole S.text S.space S.keeps (text_refusal name.now) sink.old (forms (T.starts table.now) (T.continues table.now) (T.shown table.now) name.now) result sink.new }
 {
     let mut gauge = Gauge::new(sink.space());
     put_forms(&mut gauge, table, name)?;
     put_forms(sink, table, name)
-}
-
-// The forms of a name at the front of the memory.
-fn written_forms<'m, T: CharTable>(
-    memory: &'m mut [u8],
-    table: &T,
-    name: &[u8],
-) -> Result<&'m [u8], Refusal>
-    ensures { Shown (refused_or_short (text_refusal name.now) (forms (T.CharTable.starts table.now) (T.CharTable.continues table.now) (T.CharTable.shown table.now) name.now) (min (length memory.old) (2 ^ 30))) (forms (T.CharTable.starts table.now) (T.CharTable.continues table.now) (T.CharTable.shown table.now) name.now) result }
-{
-    let mut buffer = Buffer::new(memory);
-    write_forms(&mut buffer, table, name)?;
-    let (memory, len) = buffer.into_parts();
-    Ok(text(memory, len))
 }
 
 /// The forms of a name, written at the front of the memory and shown as a part of it. Each of them reads back as the name, and as nothing
@@ -79,11 +65,14 @@ pub fn shown_forms<'m, T: CharTable>(
     table: &T,
     name: &[u8],
 ) -> Result<&'m [u8], Refusal>
-    ensures shown { Shown (refused_or_short (text_refusal name.now) (forms (T.CharTable.starts table.now) (T.CharTable.continues table.now) (T.CharTable.shown table.now) name.now) (min (length memory.old) (2 ^ 30))) (forms (T.CharTable.starts table.now) (T.CharTable.continues table.now) (T.CharTable.shown table.now) name.now) result }
-    ensures back { ShownReadsBack (T.CharTable.starts table.now) (T.CharTable.continues table.now) (T.CharTable.shown table.now) name.now result }
+    ensures shown { let lines = forms (T.starts table.now) (T.continues table.now) (T.shown table.now) name.now in Shown (refused_or_short (text_refusal name.now) lines (min (length memory.old) (2 ^ 30))) lines result }
+    ensures back { IfOk result (λ lines. LinesReadBack (T.starts table.now) (T.continues table.now) (T.shown table.now) name.now lines.now) }
 {
     // These two do nothing; that what is shown reads back as the name rests on what they promise.
     literals_read_back(table);
     no_text_has_two_readings(table);
-    written_forms(memory, table, name)
+    let mut buffer = Buffer::new(memory);
+    write_forms(&mut buffer, table, name)?;
+    let (memory, len) = buffer.into_parts();
+    Ok(text(memory, len))
 }

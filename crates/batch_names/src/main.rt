@@ -5,12 +5,11 @@ use crate::rows::print_all;
 use crate::summary::Summary;
 use anyhow::anyhow;
 use chars::table::Ascii;
-use inputs::tables::{read_ranges, table_of};
+use inputs::tables::{read_ranges, read_table_file, table_of};
+use std::env;
 use std::io::Read;
-use std::{env, fs};
 
 mod forms;
-mod lines;
 mod rows;
 mod summary;
 
@@ -28,55 +27,22 @@ fn run(rt: &HostRuntime) -> anyhow::Result<()> {
     let summary = match env::args(rt)?.nth(2) {
         None => print_all(rt, &Ascii, memory.as_mut_slice(), input.as_slice())?,
         Some(path) => {
-            let text = table_text(rt, path.as_str())?;
+            let text = read_table_file(rt, path.as_str())?;
             let ranges = read_ranges(rt.alloc(), text.as_slice())?;
             let table = table_of(ranges.as_slice())?;
             print_all(rt, &table, memory.as_mut_slice(), input.as_slice())?
         }
     };
-    print_summary(rt, &summary)
+    println!(rt; "{summary}")?;
+    Ok(())
 }
 
 // The bytes that a name's forms may have: the first argument, if there is one.
 fn space(rt: &HostRuntime) -> anyhow::Result<usize> {
     match env::args(rt)?.nth(1) {
         None => Ok(SPACE),
-        Some(word) => match word.as_str().parse::<usize>() {
-            Ok(n) => Ok(n),
-            Err(_) => Err(anyhow!(
-                "the first argument is the number of bytes that the forms of a name may have"
-            )),
-        },
+        Some(word) => word.as_str().parse::<usize>().map_err(|_| {
+            anyhow!("the first argument is the number of bytes that the forms of a name may have")
+        }),
     }
-}
-
-fn table_text(rt: &HostRuntime, path: &str) -> anyhow::Result<Vec<u8>> {
-    match fs::read(rt, path) {
-        Ok(text) => Ok(text),
-        Err(_) => Err(anyhow!(format!(in rt.alloc(); "the table {path} cannot be read")?)),
-    }
-}
-
-fn print_summary(rt: &HostRuntime, summary: &Summary) -> anyhow::Result<()> {
-    let Summary {
-        names,
-        bytes,
-        escaped,
-        bare,
-        raw,
-        no_name,
-        not_utf8,
-        too_long,
-        no_space,
-    } = *summary;
-    println!(rt; "names read: {names}")?;
-    println!(rt; "bytes written: {bytes}")?;
-    println!(rt; "stand bare: {bare}")?;
-    println!(rt; "stand behind r#: {raw}")?;
-    println!(rt; "needed escapes: {escaped}")?;
-    println!(rt; "refused 6, no name: {no_name}")?;
-    println!(rt; "refused 7, not UTF-8: {not_utf8}")?;
-    println!(rt; "refused 10, over 65535 bytes: {too_long}")?;
-    println!(rt; "refused 19, forms exceed the space: {no_space}")?;
-    Ok(())
 }

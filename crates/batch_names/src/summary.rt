@@ -1,42 +1,37 @@
 //! What became of the lines, counted.
-ghost use Rattle.std.specs.Prelude.{List, [], ◌∷◌};
-ghost use Rattle.batch_names.specs.declared.summary.Outcome.{Outcome};
+ghost use Rattle.std.specs.Prelude.{List, [], ◌∷◌, Result};
+ghost use Rattle.words.specs.declared.refusal.Refusal.{Refusal};
+ghost use Rattle.batch_names.specs.declared.summary.Written.{Written};
 ghost use Rattle.batch_names.specs.Tally.{Sums};
 
+use std::fmt;
+use std::num::Saturating;
+use words::name::Form;
 use words::refusal::Refusal;
 
-/// How a name stands in a RON text, if it is one.
+/// A line whose forms were written.
 #[derive(Clone, Copy)]
-pub enum Standing {
-    /// As it is.
-    Bare,
-    /// Behind `r#`.
-    Raw,
-    /// It is no name.
-    NoName,
-}
-
-/// What became of a line.
-#[derive(Clone, Copy)]
-pub enum Outcome {
-    /// Its forms were written: how many bytes, whether it needed escapes, and how it stands as a name.
-    Written(usize, bool, Standing),
-    /// It was refused.
-    Refused(Refusal),
+pub struct Written {
+    /// How many bytes its forms have.
+    pub bytes: usize,
+    /// Whether it needed escapes.
+    pub escaped: bool,
+    /// How it stands as a name, if it is one.
+    pub form: Option<Form>,
 }
 
 /// How many lines came out in each way. A count that would pass 2^64 - 1 stays there.
-#[derive(Clone, Copy)]
+#[derive(Clone, Copy, Default)]
 pub struct Summary {
-    pub names: u64,
-    pub bytes: u64,
-    pub escaped: u64,
-    pub bare: u64,
-    pub raw: u64,
-    pub no_name: u64,
-    pub not_utf8: u64,
-    pub too_long: u64,
-    pub no_space: u64,
+    pub names: Saturating<u64>,
+    pub bytes: Saturating<u64>,
+    pub escaped: Saturating<u64>,
+    pub bare: Saturating<u64>,
+    pub raw: Saturating<u64>,
+    pub no_name: Saturating<u64>,
+    pub not_utf8: Saturating<u64>,
+    pub too_long: Saturating<u64>,
+    pub no_space: Saturating<u64>,
 }
 
 impl Summary {
@@ -44,45 +39,55 @@ impl Summary {
     pub fn new() -> Summary
         ensures { Sums [] result }
     {
-        Summary {
-            names: 0,
-            bytes: 0,
-            escaped: 0,
-            bare: 0,
-            raw: 0,
-            no_name: 0,
-            not_utf8: 0,
-            too_long: 0,
-            no_space: 0,
-        }
+        Summary::default()
     }
 
-    /// Counts one line more.
-    pub fn add(&mut self, outcome: Outcome)
-        ensures { (os : List Outcome) → Sums os self.old → Sums (outcome ∷ os) self.new }
+    /// Counts one line more: what was written of it, or why it was refused.
+    pub fn add(&mut self, outcome: Result<Written, Refusal>)
+        ensures { (os : List (Result Written Refusal)) → Sums os self.old → Sums (outcome ∷ os) self.new }
     {
-        self.names = self.names.saturating_add(1);
+        self.names += 1;
         match outcome {
-            Outcome::Written(bytes, escapes, name) => {
-                self.bytes = self.bytes.saturating_add(bytes as u64);
-                if escapes {
-                    self.escaped = self.escaped.saturating_add(1);
-                }
-                match name {
-                    Standing::Bare => self.bare = self.bare.saturating_add(1),
-                    Standing::Raw => self.raw = self.raw.saturating_add(1),
-                    Standing::NoName => self.no_name = self.no_name.saturating_add(1),
+            Ok(written) => {
+                self.bytes += written.bytes as u64;
+                self.escaped += u64::from(written.escaped);
+                match written.form {
+                    Some(Form::Bare) => self.bare += 1,
+                    Some(Form::Raw) => self.raw += 1,
+                    None => self.no_name += 1,
                 }
             }
-            Outcome::Refused(Refusal::InvalidIdentifier) => self.no_name = self
-                .no_name
-                .saturating_add(1),
-            Outcome::Refused(Refusal::NotUtf8) => self.not_utf8 = self.not_utf8.saturating_add(1),
+            Err(Refusal::InvalidIdentifier) => self.no_name += 1,
+            Err(Refusal::NotUtf8) => self.not_utf8 += 1,
             // A line is no number and no character, so it is not refused as one.
-            Outcome::Refused(Refusal::NotScalar) => {}
-            Outcome::Refused(Refusal::NotFloat) => {}
-            Outcome::Refused(Refusal::TooLong) => self.too_long = self.too_long.saturating_add(1),
-            Outcome::Refused(Refusal::NoSpace) => self.no_space = self.no_space.saturating_add(1),
+            Err(Refusal::NotScalar | Refusal::NotFloat) => {}
+            Err(Refusal::TooLong) => self.too_long += 1,
+            Err(Refusal::NoSpace) => self.no_space += 1,
         }
+    }
+}
+
+impl fmt::Display for Summary {
+    fn fmt<W: fmt::Write>(&self, f: &mut fmt::Formatter<W>) -> fmt::Result {
+        let Summary {
+            names,
+            bytes,
+            escaped,
+            bare,
+            raw,
+            no_name,
+            not_utf8,
+            too_long,
+            no_space,
+        } = *self;
+        writeln!(f, "names read: {names}")?;
+        writeln!(f, "bytes written: {bytes}")?;
+        writeln!(f, "stand bare: {bare}")?;
+        writeln!(f, "stand behind r#: {raw}")?;
+        writeln!(f, "needed escapes: {escaped}")?;
+        writeln!(f, "refused 6, no name: {no_name}")?;
+        writeln!(f, "refused 7, not UTF-8: {not_utf8}")?;
+        writeln!(f, "refused 10, over 65535 bytes: {too_long}")?;
+        write!(f, "refused 19, forms exceed the space: {no_space}")
     }
 }

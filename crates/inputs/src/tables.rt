@@ -55,10 +55,7 @@ pub fn read_ranges(heap: Global, text: &[u8]) -> anyhow::Result<Vec<Range>>
 
 /// The table of these ranges, or the message that they make none.
 pub fn table_of<'a>(ranges: &'a [Range]) -> anyhow::Result<Ranges<'a>>
-    ensures { IfOk result (λ t. IsTable ranges.now × Means t.ranges.now ranges.now) }
+    ensures { IfOk result (λ t. IsTable ranges.now × Means t ranges.now) }
 {
-    match Ranges::new(ranges) {
-        Ok(table) => Ok(table),
-        Err(_) => Err(anyhow!("refused 5: the ranges make no character table")),
-    }
+    Ok(Ranges::new(ranges)?)
 }

@@ -1,6 +1,5 @@
 use Rattle.std.proofs.Common.{◌≡◌, rules}
-use Rattle.words.specs.Refusals.{text_refusal}
-use Rattle.words.proofs.Measured.{refused_whole, put_whole}
+use Rattle.words.proofs.Measured.{refused_whole}
 use Rattle.words.proofs.Writing.{exits}
 use Rattle.batch_names.proofs.forms.write_forms.Goals as goal
 
@@ -8,8 +7,3 @@ pub returns-in_err-put_forms : goal.returns-in_err-put_forms
 returns-in_err-put_forms g c =
     let measured : c.new-gauge.result.room ≡ g.S.Sink.space c.args.sink.now = search rules in
     refused_whole g.met.S.Sink.steady measured c.in_err-put_forms.ensures (exits _ _ c.from_residual.ensures.1)
-
-pub returns : goal.returns
-returns g c =
-    let measured : c.new-gauge.result.room ≡ g.S.Sink.space c.args.sink.now = search rules in
-    put_whole (text_refusal c.args.name.now) measured c.in_ok-put_forms.ensures c.put_forms-2.ensures
