@@ -80,7 +80,10 @@ impl fmt::Display for Reason<'_> {
                 write!(f, "no name: empty, or with a character that no name has")
             }
             Refusal::NotUtf8 => {
-                let place = Text::new(self.name).err().map_or(0, |e| e.at).saturating_add(1);
+                let place = Text::new(self.name)
+                    .err()
+                    .map_or(0, |e| e.at)
+                    .saturating_add(1);
                 write!(f, "the line is not UTF-8 from its byte {place} on")
             }
             Refusal::NotScalar => write!(f, "not a character"),
