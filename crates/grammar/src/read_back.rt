@@ -6,5 +6,5 @@ use chars::table::CharTable;
 /// Names, numbers, characters, texts and byte strings read back as what was put in, before all that may stand behind an item,
 /// with every table of characters.
 pub fn literals_read_back<T: CharTable>(table: &T)
-    ensures { LiteralsReadBack (T.CharTable.starts table.now) (T.CharTable.continues table.now) (T.CharTable.shown table.now) }
+    ensures { LiteralsReadBack (T.starts table.now) (T.continues table.now) (T.shown table.now) }
 {}

@@ -1,7 +1,7 @@
 //! The kinds of frame.
 
 /// The kind of an open frame.
-#[derive(Clone, Copy)]
+#[derive(Clone, Copy, PartialEq, Eq, Debug)]
 pub enum Kind {
     /// An option that holds a value.
     Some,

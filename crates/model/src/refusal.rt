@@ -4,45 +4,45 @@ ghost use Rattle.model.specs.Refusals.{number, of_word};
 
 use words::refusal::Refusal as WordRefusal;
 
-/// Why a call is refused.
-#[derive(Clone, Copy)]
+/// Why a call is refused, with the number that users look up.
+#[derive(Clone, Copy, PartialEq, Eq, Debug)]
 pub enum Refusal {
     /// The new line is not all blank.
-    NewLineNotBlank,
+    NewLineNotBlank = 1,
     /// The indentor is not all blank.
-    IndentorNotBlank,
+    IndentorNotBlank = 2,
     /// The separator is not all blank.
-    SeparatorNotBlank,
+    SeparatorNotBlank = 3,
     /// The new line, the indentor or the separator has more than 32 bytes.
-    LayoutTooLong,
+    LayoutTooLong = 4,
     /// An argument is not a name.
-    InvalidIdentifier,
+    InvalidIdentifier = 6,
     /// A text or a name is not UTF-8.
-    NotUtf8,
+    NotUtf8 = 7,
     /// A number is not a scalar value.
-    NotScalar,
+    NotScalar = 8,
     /// An argument is not the text of a float.
-    NotFloat,
+    NotFloat = 9,
     /// An argument has more than 65,535 bytes.
-    TooLong,
+    TooLong = 10,
     /// The place has its one value.
-    Filled,
+    Filled = 11,
     /// What is shown is not the ticket of the innermost frame.
-    WrongTicket,
+    WrongTicket = 12,
     /// A frame that holds one value is ended without it.
-    EndedEmpty,
+    EndedEmpty = 13,
     /// The document is closed.
-    Closed,
+    Closed = 14,
     /// A frame is open, or there is no value.
-    Unfinished,
+    Unfinished = 15,
     /// More frames would stand around a value than the recursion limit allows.
-    ExceededRecursionLimit,
+    ExceededRecursionLimit = 16,
     /// More than 256 frames would be open.
-    TooManyFrames,
+    TooManyFrames = 17,
     /// A frame would have more than 65,535 elements.
-    TooManyElements,
+    TooManyElements = 18,
     /// The call has more bytes than there is space for.
-    NoSpace,
+    NoSpace = 19,
 }
 
 impl Refusal {
@@ -50,26 +50,7 @@ impl Refusal {
     pub fn number(self) -> u8
         ensures { result ≡ number self }
     {
-        match self {
-            Self::NewLineNotBlank => 1,
-            Self::IndentorNotBlank => 2,
-            Self::SeparatorNotBlank => 3,
-            Self::LayoutTooLong => 4,
-            Self::InvalidIdentifier => 6,
-            Self::NotUtf8 => 7,
-            Self::NotScalar => 8,
-            Self::NotFloat => 9,
-            Self::TooLong => 10,
-            Self::Filled => 11,
-            Self::WrongTicket => 12,
-            Self::EndedEmpty => 13,
-            Self::Closed => 14,
-            Self::Unfinished => 15,
-            Self::ExceededRecursionLimit => 16,
-            Self::TooManyFrames => 17,
-            Self::TooManyElements => 18,
-            Self::NoSpace => 19,
-        }
+        self as u8
     }
 }
 

@@ -1,13 +1,11 @@
--- The reserved words, by their first character, and in bytes as in characters.
-use Rattle.std.proofs.Common.{◌≡◌, ℕ, suc, ◌-◌, ◌<◌, ◌≤◌, Bool, true, false, cond, ◌&&◌, ◌||◌, eqb, ltb, ◌⊎◌, List, [], ◌∷◌, ◌++◌, length, get_or, take, drop, codes, sym, refl, ap, ◌∙◌, ap₂, inl, inr, arith}
-use Rattle.std.proofs.lemmas.Slice.{first_rest}
+-- A text is a reserved word in its bytes just where it is one in its characters.
+use Rattle.std.proofs.Common.{◌≡◌, ℕ, suc, ◌<◌, ◌≤◌, Bool, true, false, ◌&&◌, ◌||◌, eqb, ltb, ◌⊎◌, List, [], ◌∷◌, ◌++◌, length, get_or, sym, refl, ap, ◌∙◌, ap₂, inl, inr, arith}
 use Rattle.std.proofs.lemmas.Bool.{and_parts, and_left, ltb-true, ne_eqb}
 use Rattle.std.proofs.lemmas.Bool.Decides.{nat_tests}
 use Rattle.chars.specs.Utf8.{scalar, scalars, encode, encodes, utf8, decoded}
 use Rattle.chars.proofs.Decoding.{encodes_decoded}
 use Rattle.chars.proofs.HighBytes.{High, encode_parts}
 use Rattle.words.specs.Classes.{all}
-use Rattle.words.specs.Inner.{reserved_from}
 use Rattle.words.specs.Names.{agrees, same, one_of, reserved, reserved_words}
 
 agrees_behind : (i : ℕ) (w cs : List ℕ) (c : ℕ) → agrees (suc i) w (c ∷ cs) ≡ agrees i w cs
@@ -27,20 +25,6 @@ same_cons c d cs w =
     ap (λ t. t && (eqb c d && agrees 1 w (c ∷ cs))) (eqb_suc (length cs) (length w))
     ∙ ap (λ t. eqb (length cs) (length w) && (eqb c d && t)) (agrees_behind 0 w cs c)
     ∙ exchange (eqb (length cs) (length w)) (eqb c d) (agrees 0 w cs)
-
--- the words that a first character leaves
-picked : (c : ℕ) (a₁ a₂ a₃ a₄ a₅ a₆ a₇ a₈ a₉ a₀ : Bool)
-    → ((eqb c 0x74 && a₁) || ((eqb c 0x66 && a₂) || ((eqb c 0x53 && a₃) || ((eqb c 0x4E && a₄) || ((eqb c 0x69 && a₅) || ((eqb c 0x69 && a₆) || ((eqb c 0x69 && a₇) || ((eqb c 0x4E && a₈) || ((eqb c 0x4E && a₉) || ((eqb c 0x4E && a₀) || false))))))))))
-    ≡ cond (eqb c 0x74) a₁ (cond (eqb c 0x66) a₂ (cond (eqb c 0x53) a₃ (cond (eqb c 0x4E) (a₄ || (a₈ || (a₉ || (a₀ || false)))) (cond (eqb c 0x69) (a₅ || (a₆ || (a₇ || false))) false))))
-picked c a₁ a₂ a₃ a₄ a₅ a₆ a₇ a₈ a₉ a₀ = grind (arith, nat_tests)
-
-reserved_cons : (c : ℕ) (cs : List ℕ) → reserved (c ∷ cs) ≡ reserved_from c cs
-reserved_cons c cs =
-    rw (same_cons c 0x74 cs _, same_cons c 0x66 cs _, same_cons c 0x53 cs _, same_cons c 0x4E cs (codes "one"), same_cons c 0x69 cs (codes "nf"), same_cons c 0x69 cs (codes "nff32"), same_cons c 0x69 cs (codes "nff64"), same_cons c 0x4E cs (codes "aN"), same_cons c 0x4E cs (codes "aNf32"), same_cons c 0x4E cs (codes "aNf64"))
-    (picked c _ _ _ _ _ _ _ _ _ _)
-
-pub reserved_first : (s : List ℕ) → 0 < length s → reserved_from (get_or s 0 0) (take (length s - 1) (drop 1 s)) ≡ reserved s
-reserved_first s l = sym (reserved_cons (get_or s 0 0) (take (length s - 1) (drop 1 s))) ∙ ap reserved (sym (first_rest s 0 l))
 
 -- a word of ASCII is in the characters of a text as it is in its bytes
 longer : (c : ℕ) (cs : List ℕ) → same (c ∷ cs) [] ≡ false

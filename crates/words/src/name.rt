@@ -3,7 +3,6 @@ ghost use Rattle.std.specs.Prelude.{◌≡◌, ◌++◌, is_ok};
 ghost use Rattle.chars.specs.Texts.{characters};
 ghost use Rattle.chars.specs.Utf8.{decoded};
 ghost use Rattle.output.specs.Puts.{Puts};
-ghost use Rattle.words.specs.Inner.{reserved_from, ends_none_or_nan, ends_inf};
 ghost use Rattle.words.specs.Names.{reserved, name, first_char, bare, form, formed, identifier};
 ghost use Rattle.words.specs.Refusals.{unless, name_refusal, IsName};
 ghost use Rattle.words.specs.Writes.{Writes};
@@ -53,35 +52,17 @@ fn is_name<T: CharTable>(table: &T, text: Text) -> bool
 fn is_reserved(name: &[u8]) -> bool
     ensures { result ≡ reserved name.now }
 {
-    match name {
-        [first, rest @ ..] => is_reserved_from(*first, rest),
-        [] => false,
-    }
-}
-
-fn is_reserved_from(first: u8, rest: &[u8]) -> bool
-    ensures { result ≡ reserved_from first rest.now }
-{
+    let [first, rest @ ..] = name else {
+        return false;
+    };
     match first {
         b't' => matches!(rest, b"rue"),
         b'f' => matches!(rest, b"alse"),
         b'S' => matches!(rest, b"ome"),
-        b'N' => is_end_of_none_or_nan(rest),
-        b'i' => is_end_of_inf(rest),
+        b'N' => matches!(rest, b"one" | b"aN" | b"aNf32" | b"aNf64"),
+        b'i' => matches!(rest, b"nf" | b"nff32" | b"nff64"),
         _ => false,
     }
-}
-
-fn is_end_of_none_or_nan(rest: &[u8]) -> bool
-    ensures { result ≡ ends_none_or_nan rest.now }
-{
-    matches!(rest, b"one" | b"aN" | b"aNf32" | b"aNf64")
-}
-
-fn is_end_of_inf(rest: &[u8]) -> bool
-    ensures { result ≡ ends_inf rest.now }
-{
-    matches!(rest, b"nf" | b"nff32" | b"nff64")
 }
 
 // Whether a name stands as it is: begun by an underscore or a start character, and not reserved.
