@@ -19,14 +19,16 @@ pub fn split_field(bytes: &[u8], sep: u8) -> (&[u8], &[u8])
     split_once(bytes, sep).unwrap_or((bytes, &[]))
 }
 
-/// The bytes without this one in front, if they begin with it.
-/// Whether the bytes begin with this one, and the bytes without it.
-pub fn strip_byte(bytes: &[u8], byte: u8) -> (bool, &[u8])
-    ensures led { result.0 ≡ led byte bytes.now }
-    ensures rest { result.1.now ≡ past byte bytes.now }
+/// Takes this byte off the front, if the bytes begin with it, and tells whether they did.
+pub fn take_byte(bytes: &mut &[u8], byte: u8) -> bool
+    ensures led { result ≡ led byte bytes.old.now }
+    ensures rest { bytes.new.now ≡ past byte bytes.old.now }
 {
-    match bytes {
-        [first, rest @ ..] if *first == byte => (true, rest),
-        _ => (false, bytes),
+    match *bytes {
+        [first, rest @ ..] if *first == byte => {
+            *bytes = rest;
+            true
+        }
+        _ => false,
     }
 }

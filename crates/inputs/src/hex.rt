@@ -1,26 +1,28 @@
 //! Hexadecimal.
-ghost use Rattle.std.specs.Prelude.{◌≡◌, ◌<◌, IfOk, vec_items};
+ghost use Rattle.std.specs.Prelude.{◌≡◌, ◌<◌, IfSome, IfOk, vec_items};
 ghost use Rattle.std.specs.Option.{option_map};
-ghost use Rattle.inputs.specs.Hex.{hex_digit, digit_value, hex_number, bytes_of};
+ghost use Rattle.inputs.specs.Hex.{digit_value, byte_of, hex_number, bytes_of};
 
 use std::alloc::{AllocError, Global};
 
-fn is_hex_digit(b: u8) -> bool
-    ensures { result ≡ hex_digit b }
-{
-    matches!(b, b'0'..=b'9' | b'a'..=b'f' | b'A'..=b'F')
-}
-
-fn digit_value(b: u8) -> u8
+// What a digit counts.
+fn digit_value(b: u8) -> Option<u8>
     ensures value { result ≡ digit_value b }
-    ensures bound { result < 16 }
+    ensures bound { IfSome result (λ d. d < 16) }
 {
     match b {
-        b'0'..=b'9' => b - b'0',
-        b'a'..=b'f' => b - b'a' + 10,
-        b'A'..=b'F' => b - b'A' + 10,
-        _ => 0,
+        b'0'..=b'9' => Some(b - b'0'),
+        b'a'..=b'f' => Some(b - b'a' + 10),
+        b'A'..=b'F' => Some(b - b'A' + 10),
+        _ => None,
     }
+}
+
+// The byte of two digits.
+fn byte_of(high: u8, low: u8) -> Option<u8>
+    ensures { result ≡ byte_of high low }
+{
+    Some(digit_value(high)? * 16 + digit_value(low)?)
 }
 
 /// The number that hexadecimal digits spell, if it is below 2^32.
@@ -32,14 +34,8 @@ pub fn hex_number(digits: &[u8]) -> Option<u32>
     }
     let mut n = 0u32;
     for b in digits {
-        if !is_hex_digit(*b) {
-            return None;
-        }
-        let next = u64::from(n) * 16 + u64::from(digit_value(*b));
-        if next > 0xFFFF_FFFF {
-            return None;
-        }
-        n = next as u32;
+        let digit = digit_value(*b)?;
+        n = n.checked_mul(16)?.checked_add(u32::from(digit))?;
     }
     Some(n)
 }
@@ -48,18 +44,16 @@ pub fn hex_number(digits: &[u8]) -> Option<u32>
 pub fn hex_bytes(heap: Global, digits: &[u8]) -> Result<Option<Vec<u8>>, AllocError>
     ensures { IfOk result (λ o. option_map vec_items o ≡ bytes_of digits.now) }
 {
-    let mut bytes = Vec::with_capacity(heap, digits.len() / 2)?;
-    let mut rest = digits;
-    while let [high, low, after @ ..] = rest {
-        if !is_hex_digit(*high) || !is_hex_digit(*low) {
+    let (pairs, rest) = digits.as_chunks::<2>();
+    if !rest.is_empty() {
+        return Ok(None);
+    }
+    let mut bytes = Vec::with_capacity(heap, pairs.len())?;
+    for [high, low] in pairs {
+        let Some(byte) = byte_of(*high, *low) else {
             return Ok(None);
-        }
-        bytes.push(digit_value(*high) * 16 + digit_value(*low))?;
-        rest = after;
+        };
+        bytes.push(byte)?;
     }
-    if rest.is_empty() {
-        Ok(Some(bytes))
-    } else {
-        Ok(None)
-    }
+    Ok(Some(bytes))
 }

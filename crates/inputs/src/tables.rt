@@ -5,7 +5,7 @@ ghost use Rattle.chars.specs.Ranges.{IsTable};
 ghost use Rattle.chars.specs.Searches.{Means};
 ghost use Rattle.inputs.specs.TableLines.{range_line, RangesRead};
 
-use crate::fields::{split_field, strip_byte};
+use crate::fields::{split_field, take_byte};
 use crate::hex::hex_number;
 use crate::lines::Lines;
 use anyhow::anyhow;
@@ -19,20 +19,15 @@ pub fn range_of_line(line: &[u8]) -> Option<Range>
     ensures { result ≡ range_line line.now }
 {
     let (first, rest) = split_field(line, b' ');
-    let (last, sets) = split_field(rest, b' ');
-    let (start, sets) = strip_byte(sets, b's');
-    let (continues, sets) = strip_byte(sets, b'c');
-    let (shown, sets) = strip_byte(sets, b'h');
-    match (hex_number(first), hex_number(last)) {
-        (Some(first), Some(last)) if sets.is_empty() => Some(Range {
-            first,
-            last,
-            start,
-            continues,
-            shown,
-        }),
-        _ => None,
-    }
+    let (last, mut sets) = split_field(rest, b' ');
+    let range = Range {
+        first: hex_number(first)?,
+        last: hex_number(last)?,
+        start: take_byte(&mut sets, b's'),
+        continues: take_byte(&mut sets, b'c'),
+        shown: take_byte(&mut sets, b'h'),
+    };
+    sets.is_empty().then_some(range)
 }
 
 /// The bytes of the file of a table.

@@ -8,11 +8,11 @@ use Rattle.words.specs.Refusals.{first_refusal, text_refusal, name_refusal}
 use Rattle.words.specs.declared.refusal.Refusal.{Refusal}
 use Rattle.literals.specs.Bytes.{bytes_refusal, escaped_byte_str, unescaped_or_raw_byte_str}
 use Rattle.literals.specs.Characters.{character, char_refusal}
-use Rattle.literals.specs.Floats.{float, float_refusal}
+use Rattle.literals.specs.Floats.{float, float_suffix, float_refusal}
 use Rattle.literals.specs.Integers.{integer}
 use Rattle.replay.specs.declared.value.Settings.{Settings}
 use Rattle.replay.specs.declared.value.Value.{Value}
-use Rattle.replay.specs.declared.value.Value.TheVariants.{Bool as of_bool, I8, I16, I32, I64, U8, U16, U32, U64, F32, F64, Char, Str, Bytes, Unit, UnitStruct, UnitVariant}
+use Rattle.replay.specs.declared.value.Value.TheVariants.{Bool as of_bool, I8, I16, I32, I64, U8, U16, U32, U64, Float, Char, Str, Bytes, Unit, UnitStruct, UnitVariant}
 
 module _ (starts continues shown : ℕ → Bool) (settings : Settings) where
   abbrev pub value_text : Value → List ℕ
@@ -25,8 +25,7 @@ module _ (starts continues shown : ℕ → Bool) (settings : Settings) where
   value_text (U16 n) = integer (pos n) settings.number_suffixes (codes "u16")
   value_text (U32 n) = integer (pos n) settings.number_suffixes (codes "u32")
   value_text (U64 n) = integer (pos n) settings.number_suffixes (codes "u64")
-  value_text (F32 s) = float settings.number_suffixes (codes "f32") (vec_items s)
-  value_text (F64 s) = float settings.number_suffixes (codes "f64") (vec_items s)
+  value_text (Float width s) = float settings.number_suffixes (float_suffix width) (vec_items s)
   value_text (Char n) = character n
   value_text (Str s) = cond settings.escape_strings (escaped_str shown (decoded (vec_items s))) (unescaped_or_raw_str (decoded (vec_items s)))
   value_text (Bytes s) = cond settings.escape_strings (escaped_byte_str (vec_items s)) (unescaped_or_raw_byte_str (vec_items s))
@@ -45,8 +44,7 @@ module _ (starts continues shown : ℕ → Bool) (settings : Settings) where
   value_refusal (U16 n) = None
   value_refusal (U32 n) = None
   value_refusal (U64 n) = None
-  value_refusal (F32 s) = float_refusal (vec_items s)
-  value_refusal (F64 s) = float_refusal (vec_items s)
+  value_refusal (Float width s) = float_refusal (vec_items s)
   value_refusal (Char n) = char_refusal n
   value_refusal (Str s) = text_refusal (vec_items s)
   value_refusal (Bytes s) = bytes_refusal (vec_items s)

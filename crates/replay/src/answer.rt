@@ -4,10 +4,10 @@ ghost use Rattle.inputs.specs.Fields.{led};
 ghost use Rattle.std.specs.List.{flat_map};
 ghost use Rattle.literals.specs.Bytes.{digit_pair};
 
-use crate::script::document_of;
+use crate::script::{Document, document_of};
 use crate::value::shown_value;
 use chars::table::CharTable;
-use inputs::lines::split_line;
+use inputs::lines::Lines;
 use literals::bytes::hex_pair;
 use std::alloc::{AllocError, Global};
 use std::io::Write;
@@ -19,13 +19,11 @@ pub(crate) fn print_answers<T: CharTable>(
     memory: &mut [u8],
     script: &[u8],
 ) -> anyhow::Result<()> {
-    let mut rest = script;
-    while !rest.is_empty() {
-        let (line, after) = split_line(rest);
-        if is_document(line) {
-            print_answer(rt, table, memory, line)?;
+    for line in Lines::new(script).filter(|line| is_document(line)) {
+        match document_of(rt.alloc(), line) {
+            Ok(document) => print_answer(rt, table, memory, &document)?,
+            Err(why) => println!(rt; "skip {why}")?,
         }
-        rest = after;
     }
     Ok(())
 }
@@ -34,25 +32,15 @@ pub(crate) fn print_answers<T: CharTable>(
 fn is_document(line: &[u8]) -> bool
     ensures { result ≡ (nat_lt 0 (length line.now) && not (led 0x23 line.now)) }
 {
-    match line {
-        [] | [b'#', ..] => false,
-        _ => true,
-    }
+    !matches!(line, [] | [b'#', ..])
 }
 
 fn print_answer<T: CharTable>(
     rt: &HostRuntime,
     table: &T,
     memory: &mut [u8],
-    line: &[u8],
+    document: &Document,
 ) -> anyhow::Result<()> {
-    let document = match document_of(rt.alloc(), line) {
-        Ok(document) => document,
-        Err(why) => {
-            println!(rt; "skip {why}")?;
-            return Ok(());
-        }
-    };
     let space = document.space.unwrap_or(memory.len()).min(memory.len());
     match shown_value(
         &mut memory[..space],

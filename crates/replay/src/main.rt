@@ -3,11 +3,10 @@
 #![tactic(auto)]
 
 use crate::answer::print_answers;
-use anyhow::anyhow;
 use chars::table::Ascii;
-use inputs::tables::{read_ranges, table_of};
+use inputs::tables::{read_ranges, read_table_file, table_of};
+use std::env;
 use std::io::Read;
-use std::{env, fs};
 
 mod answer;
 mod script;
@@ -24,20 +23,11 @@ fn run(rt: &HostRuntime) -> anyhow::Result<()> {
     let mut memory = vec![in rt.alloc(); 0; SPACE]?;
     let mut script = Vec::new(rt.alloc());
     rt.stdin().read_to_end(&mut script)?;
-    match env::args(rt)?.nth(1) {
-        None => print_answers(rt, &Ascii, memory.as_mut_slice(), script.as_slice()),
-        Some(path) => {
-            let text = table_text(rt, path.as_str())?;
-            let ranges = read_ranges(rt.alloc(), text.as_slice())?;
-            let table = table_of(ranges.as_slice())?;
-            print_answers(rt, &table, memory.as_mut_slice(), script.as_slice())
-        }
-    }
-}
-
-fn table_text(rt: &HostRuntime, path: &str) -> anyhow::Result<Vec<u8>> {
-    match fs::read(rt, path) {
-        Ok(text) => Ok(text),
-        Err(_) => Err(anyhow!(format!(in rt.alloc(); "the table {path} cannot be read")?)),
-    }
+    let Some(path) = env::args(rt)?.nth(1) else {
+        return print_answers(rt, &Ascii, memory.as_mut_slice(), script.as_slice());
+    };
+    let text = read_table_file(rt, path.as_str())?;
+    let ranges = read_ranges(rt.alloc(), text.as_slice())?;
+    let table = table_of(ranges.as_slice())?;
+    print_answers(rt, &table, memory.as_mut_slice(), script.as_slice())
 }

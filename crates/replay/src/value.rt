@@ -1,5 +1,5 @@
 //! A document of one value that opens no frame.
-ghost use Rattle.std.specs.Prelude.{◌^◌, min, cond, length, if◌then◌else◌, None, codes};
+ghost use Rattle.std.specs.Prelude.{◌^◌, min, cond, length, None, codes};
 ghost use Rattle.chars.specs.Utf8.{decoded};
 ghost use Rattle.literals.specs.Bytes.{bytes_refusal, escaped_byte_str, unescaped_or_raw_byte_str};
 ghost use Rattle.words.specs.Escapes.{escaped_str};
@@ -37,6 +37,7 @@ pub struct Settings {
 #[derive(Drop)]
 pub enum Value {
     Bool(bool),
+    // A variant for each type of integer: the type says which numbers fit and what suffix they have.
     I8(i8),
     I16(i16),
     I32(i32),
@@ -45,8 +46,7 @@ pub enum Value {
     U16(u16),
     U32(u32),
     U64(u64),
-    F32(Vec<u8>),
-    F64(Vec<u8>),
+    Float(Width, Vec<u8>),
     Char(u32),
     Str(Vec<u8>),
     Bytes(Vec<u8>),
@@ -61,7 +61,7 @@ fn put_text<O: Output, T: CharTable>(
     escape_strings: bool,
     value: &[u8],
 ) -> Result<(), Refusal>
-    ensures { Writes O.Output.room O.Output.took (text_refusal value.now) out.old (cond escape_strings (escaped_str (T.CharTable.shown table.now) (decoded value.now)) (unescaped_or_raw_str (decoded value.now))) result out.new }
+    ensures { Writes O.room O.took (text_refusal value.now) out.old (cond escape_strings (escaped_str (T.shown table.now) (decoded value.now)) (unescaped_or_raw_str (decoded value.now))) result out.new }
 {
     if escape_strings {
         serialize_escaped_str(out, table, value)
@@ -71,7 +71,7 @@ fn put_text<O: Output, T: CharTable>(
 }
 
 fn put_bytes<O: Output>(out: &mut O, escape_strings: bool, value: &[u8]) -> Result<(), Refusal>
-    ensures { Writes O.Output.room O.Output.took (bytes_refusal value.now) out.old (cond escape_strings (escaped_byte_str value.now) (unescaped_or_raw_byte_str value.now)) result out.new }
+    ensures { Writes O.room O.took (bytes_refusal value.now) out.old (cond escape_strings (escaped_byte_str value.now) (unescaped_or_raw_byte_str value.now)) result out.new }
 {
     if escape_strings {
         serialize_escaped_byte_str(out, value)
@@ -87,7 +87,7 @@ fn put_unit_struct<O: Output, T: CharTable>(
     struct_names: bool,
     name: &[u8],
 ) -> Result<(), Refusal>
-    ensures { Writes O.Output.room O.Output.took (name_refusal (T.CharTable.continues table.now) name.now) out.old (cond struct_names (identifier (T.CharTable.starts table.now) (T.CharTable.continues table.now) (decoded name.now)) (codes "()")) result out.new }
+    ensures { Writes O.room O.took (name_refusal (T.continues table.now) name.now) out.old (cond struct_names (identifier (T.starts table.now) (T.continues table.now) (decoded name.now)) (codes "()")) result out.new }
 {
     if struct_names {
         write_identifier(out, table, name)
@@ -105,7 +105,7 @@ fn put_unit_variant<O: Output, T: CharTable>(
     name: &[u8],
     variant: &[u8],
 ) -> Result<(), Refusal>
-    ensures { Writes O.Output.room O.Output.took (first_refusal (name_refusal (T.CharTable.continues table.now) name.now) (name_refusal (T.CharTable.continues table.now) variant.now)) out.old (identifier (T.CharTable.starts table.now) (T.CharTable.continues table.now) (decoded variant.now)) result out.new }
+    ensures { Writes O.room O.took (first_refusal (name_refusal (T.continues table.now) name.now) (name_refusal (T.continues table.now) variant.now)) out.old (identifier (T.starts table.now) (T.continues table.now) (decoded variant.now)) result out.new }
 {
     validate_identifier(table, name)?;
     write_identifier(out, table, variant)
@@ -113,20 +113,10 @@ fn put_unit_variant<O: Output, T: CharTable>(
 
 // The words that stand for themselves.
 fn put_plain<O: Output>(out: &mut O, word: &[u8]) -> Result<(), Refusal>
-    ensures { Writes O.Output.room O.Output.took None out.old word.now result out.new }
+    ensures { Writes O.room O.took None out.old word.now result out.new }
 {
     out.put(word)?;
     Ok(())
-}
-
-fn put_bool<O: Output>(out: &mut O, value: bool) -> Result<(), Refusal>
-    ensures { Writes O.Output.room O.Output.took None out.old (if value then codes "true" else codes "false") result out.new }
-{
-    if value {
-        put_plain(out, b"true")
-    } else {
-        put_plain(out, b"false")
-    }
 }
 
 fn put_value<O: Output, T: CharTable>(
@@ -135,11 +125,12 @@ fn put_value<O: Output, T: CharTable>(
     settings: Settings,
     value: &Value,
 ) -> Result<(), Refusal>
-    ensures { Writes O.Output.room O.Output.took (value_refusal (T.CharTable.starts table.now) (T.CharTable.continues table.now) (T.CharTable.shown table.now) settings value.now) out.old (value_text (T.CharTable.starts table.now) (T.CharTable.continues table.now) (T.CharTable.shown table.now) settings value.now) result out.new }
+    ensures { Writes O.room O.took (value_refusal (T.starts table.now) (T.continues table.now) (T.shown table.now) settings value.now) out.old (value_text (T.starts table.now) (T.continues table.now) (T.shown table.now) settings value.now) result out.new }
 {
     let suffixes = settings.number_suffixes;
     match value {
-        Value::Bool(b) => put_bool(out, *b),
+        Value::Bool(false) => put_plain(out, b"false"),
+        Value::Bool(true) => put_plain(out, b"true"),
         Value::I8(n) => serialize_integer(out, n, suffixes),
         Value::I16(n) => serialize_integer(out, n, suffixes),
         Value::I32(n) => serialize_integer(out, n, suffixes),
@@ -148,8 +139,7 @@ fn put_value<O: Output, T: CharTable>(
         Value::U16(n) => serialize_integer(out, n, suffixes),
         Value::U32(n) => serialize_integer(out, n, suffixes),
         Value::U64(n) => serialize_integer(out, n, suffixes),
-        Value::F32(s) => serialize_float(out, s.as_slice(), Width::F32, suffixes),
-        Value::F64(s) => serialize_float(out, s.as_slice(), Width::F64, suffixes),
+        Value::Float(width, s) => serialize_float(out, s.as_slice(), *width, suffixes),
         Value::Char(n) => serialize_char(out, *n),
         Value::Str(s) => put_text(out, table, settings.escape_strings, s.as_slice()),
         Value::Bytes(s) => put_bytes(out, settings.escape_strings, s.as_slice()),
@@ -176,7 +166,7 @@ pub fn shown_value<'m, T: CharTable>(
     settings: Settings,
     value: &Value,
 ) -> Result<&'m [u8], Refusal>
-    ensures { Shown (refused_or_short (value_refusal (T.CharTable.starts table.now) (T.CharTable.continues table.now) (T.CharTable.shown table.now) settings value.now) (value_text (T.CharTable.starts table.now) (T.CharTable.continues table.now) (T.CharTable.shown table.now) settings value.now) (min (length memory.old) (2 ^ 30))) (value_text (T.CharTable.starts table.now) (T.CharTable.continues table.now) (T.CharTable.shown table.now) settings value.now) result }
+    ensures { Shown (refused_or_short (value_refusal (T.starts table.now) (T.continues table.now) (T.shown table.now) settings value.now) (value_text (T.starts table.now) (T.continues table.now) (T.shown table.now) settings value.now) (min (length memory.old) (2 ^ 30))) (value_text (T.starts table.now) (T.continues table.now) (T.shown table.now) settings value.now) result }
 {
     let mut buffer = Buffer::new(memory);
     put_value(&mut buffer, table, settings, value)?;

@@ -1,10 +1,22 @@
-use Rattle.std.proofs.Common.{◌<◌, length, sym, ◌∙◌, arith, rules}
-use Rattle.inputs.proofs.Numbers.{bytes_more, pairs_more}
+use Rattle.std.proofs.Common.{length, ◌/◌, sym, ◌∙◌, arith}
+use Rattle.inputs.proofs.Cuts.{not_empty}
+use Rattle.inputs.proofs.Numbers.{pairs_of, odd_digit, no_pair, pair_more, pairs_all}
 use Rattle.inputs.proofs.hex.hex_bytes.Goals as goal
 
-pub loop-rest-preserved : goal.loop-rest-preserved
-loop-rest-preserved c =
-    let two : 1 < length c.loop-rest.rest.now = search rules in (
-      bytes_more _ two _ c.in_ok-push.ensures.items (omega (arith, c.digit_value.ensures.value, c.digit_value-in-len2-up.ensures.value)) ∙ c.loop-rest.invariant.0,
-      pairs_more _ two (sym c.if-not-is_hex_digit.ensures) (sym c.if-not-is_hex_digit-2.ensures) ∙ c.loop-rest.invariant.1,
-    )
+pub returns-then-not-is_empty : goal.returns-then-not-is_empty
+returns-then-not-is_empty c =
+    let s = c.args.digits.now in
+    let l = not_empty _ c.if-not-is_empty.ensures in
+    odd_digit s (length s / 2) (omega (arith, l, c.as_chunks.ensures.back_len))
+
+pub returns-in_default : goal.returns-in_default
+returns-in_default c =
+    let s = c.args.digits.now in
+    sym (no_pair _ _ _ c.loop-high-test.true (sym c.byte_of.ensures ∙ c.in_default.is)) ∙ c.loop-high.invariant ∙ pairs_of s _ _ c.as_chunks.ensures.front c.as_chunks.ensures.back_len c.if-not-is_empty.ensures
+
+pub loop-high-preserved : goal.loop-high-preserved
+loop-high-preserved c =
+    rw c.in_ok-push.ensures.items (pair_more _ _ _ c.loop-high-test.true c.in-Some.byte (sym c.byte_of.ensures ∙ c.in-Some.is) ∙ c.loop-high.invariant)
+
+pub returns : goal.returns
+returns c = sym (pairs_all _ _ _ c.loop-high-test.false) ∙ c.loop-high.invariant ∙ pairs_of c.args.digits.now _ _ c.as_chunks.ensures.front c.as_chunks.ensures.back_len c.if-not-is_empty.ensures

@@ -1,9 +1,7 @@
-use Rattle.std.proofs.Common.{◌≡◌, ◌++◌, length, vec_items}
-use Rattle.inputs.specs.Hex.{in_pairs, pair_bytes}
+use Rattle.std.proofs.Common.{◌≡◌, ◌++◌, drop, vec_items}
+use Rattle.std.specs.Option.{option_map}
+use Rattle.inputs.proofs.Numbers.{pair_bytes}
 use Rattle.inputs.proofs.hex.hex_bytes.Given as goal
 
-abbrev pub invariant-loop-rest : goal.invariant-loop-rest
-invariant-loop-rest l = (vec_items l.bytes ++ pair_bytes l.rest ≡ pair_bytes l.digits) × (in_pairs l.rest ≡ in_pairs l.digits)
-
-abbrev pub decreases-loop-rest : goal.decreases-loop-rest
-decreases-loop-rest l = length l.rest
+abbrev pub invariant-loop-high : goal.invariant-loop-high
+invariant-loop-high l = option_map (λ bytes. vec_items l.bytes ++ bytes) (pair_bytes (drop l.high-index l.pairs)) ≡ pair_bytes l.pairs
