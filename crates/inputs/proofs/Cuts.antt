@@ -1,11 +1,11 @@
 -- Where a line ends.
-use Rattle.std.proofs.Common.{◌≡◌, ℕ, ◌<◌, Bool, true, false, cond, not, eqb, List, [], ◌∷◌, ◌++◌, length, unwrap_or, Some, None, Option, MatchOption, refl, sym, ap, ◌∙◌, append_assoc, arith, length-append}
+use Rattle.std.proofs.Common.{◌≡◌, ℕ, ◌<◌, Bool, true, false, cond, not, eqb, List, [], ◌∷◌, ◌++◌, length, unwrap_or, Some, None, Option, MatchOption, refl, sym, ap, ◌∙◌, append_assoc, arith}
 use Rattle.std.specs.Borrow.{Bor}
 use Rattle.std.proofs.lemmas.Bool.{and_parts, and_from, ne_eqb}
 use Rattle.std.proofs.lemmas.Bool.Decides.{nat_tests}
 use Rattle.std.proofs.lemmas.List.Sums.{take_while-cons}
 use Rattle.inputs.specs.Fields.{before}
-use Rattle.inputs.specs.Lines.{LF, CR, one_line, ends_in_cr, Cut, at_lf, at_cr_lf, at_end}
+use Rattle.inputs.specs.Lines.{LF, CR, one_line, ends_in_cr, Cut, at_lf, at_cr_lf}
 
 pub one_line_before : (s : List ℕ) → one_line (before LF s) ≡ true
 one_line_before [] = refl
@@ -33,12 +33,6 @@ cut_at_lf s rest line None whole h n = at_lf h (no_cr line.now n) whole
 cut_at_lf s rest line (Some front) whole h e =
     at_cr_lf (one_line_front front.now (CR ∷ []) (ap one_line (sym e) ∙ h))
     (whole ∙ ap (λ z. z ++ LF ∷ rest) e ∙ append_assoc front.now (CR ∷ []) (LF ∷ rest))
-
--- what follows a line is less than there was
-pub cut_shorter : (s line rest : List ℕ) → Cut s line rest → 0 < length s → length rest < length s
-cut_shorter s line rest (at_lf h k e) l = omega (arith, ap length e, length-append line (LF ∷ rest))
-cut_shorter s line rest (at_cr_lf h e) l = omega (arith, ap length e, length-append line (CR ∷ LF ∷ rest))
-cut_shorter s line rest (at_end h e n) l = omega (arith, ap length n)
 
 pub not_empty : (s : List ℕ) → false ≡ eqb (length s) 0 → 0 < length s
 not_empty s h = grind (arith, nat_tests)

@@ -1,3 +1,3 @@
-pub mod Cuts
+mod Cuts
 mod Numbers
-pub mod Parting
+mod Parting

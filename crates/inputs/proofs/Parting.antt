@@ -1,13 +1,12 @@
 -- Where the first separator stands.
-use Rattle.std.proofs.Common.{◌≡◌, ℕ, ◌+◌, ◌-◌, ◌<◌, ◌≤◌, true, eqb, ltb, List, [], ◌∷◌, ◌++◌, length, get_or, take, drop, Some, None, sym, ap, ◌∙◌, arith, length-drop}
+use Rattle.std.proofs.Common.{◌≡◌, ℕ, ◌+◌, ◌-◌, ◌≤◌, eqb, List, [], ◌∷◌, ◌++◌, length, get_or, take, drop, Some, None, sym, ap, ◌∙◌, arith}
 use Rattle.std.specs.List.{position, position_or_len}
 use Rattle.std.proofs.lemmas.List.{take_rest, take_all, drop_all}
 use Rattle.std.proofs.lemmas.List.Quantifiers.{position-Some}
 use Rattle.std.proofs.lemmas.List.Sums.{position_or_len_is, split_at_first}
-use Rattle.std.proofs.lemmas.Bool.{and_from, lt-ltb, eq-eqb, cond-true}
 use Rattle.std.proofs.lemmas.Bool.Decides.{nat_tests}
 use borrow.Author.Tests.{eqb-true}
-use Rattle.inputs.specs.Fields.{before, behind, led, past}
+use Rattle.inputs.specs.Fields.{before, behind}
 
 -- what is cut off at the first separator
 pub record Found (sep : ℕ) (s : List ℕ) (i : ℕ) : Type 0 where
@@ -34,14 +33,3 @@ not_found sep s e =
     let p = λ (c : ℕ). eqb c sep in
     let l : length s ≤ position_or_len p s = grind (arith, nat_tests) in
     (sym (take_all (position_or_len p s) s l), sym (drop_all (position_or_len p s + 1) s (omega arith)))
-
-module _ (b : ℕ) (s : List ℕ) (l : 0 < length s) (e : get_or s 0 0 ≡ b) where
-  pub led_here : true ≡ led b s
-  led_here = sym (and_from (ltb 0 (length s)) (eqb (get_or s 0 0) b) (lt-ltb 0 (length s) l) (eq-eqb (get_or s 0 0) b e))
-
-  pub past_here : take (length s - 1) (drop 1 s) ≡ past b s
-  past_here = take_rest s 1 ∙ sym (cond-true (led b s) (drop 1 s) s (sym led_here))
-
--- what is behind a separator is less than there was
-pub behind_shorter : (sep : ℕ) (s : List ℕ) → 0 < length s → length (behind sep s) < length s
-behind_shorter sep s l = omega (arith, length-drop (position_or_len (λ c. eqb c sep) s + 1) s)
