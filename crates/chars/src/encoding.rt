@@ -4,6 +4,7 @@ ghost use Rattle.chars.specs.Encoding.{bytes_of};
 ghost use Rattle.chars.specs.Utf8.{encode, low_six};
 
 /// The one to four bytes of a character, held without a heap.
+// An array for each width: with one of four bytes a length would have to stand beside it.
 #[derive(Clone, Copy)]
 pub enum Encoded {
     One([u8; 1]),

@@ -96,6 +96,7 @@ impl<'a> CharTable for Ranges<'a> {
 
     ghost lawful = { λ t. t.is_table.lawful };
 
+    // Three alike: with the set as a closure, a contract would have to say what the closure tells.
     fn is_xid_start(&self, c: char) -> bool {
         if c.is_ascii() {
             Ascii.is_xid_start(c)

@@ -5,6 +5,8 @@ ghost use Rattle.chars.specs.Tables.{Lawful, letter, word, printable};
 /// Which characters a name is made of (UAX #31), and which ones an escaped text shows as they are.
 /// Every table agrees on ASCII and keeps blanks out of names; the rest is its own.
 pub trait CharTable {
+    // Three sets and no record of them: a definition takes those alone that it speaks of, so that one sees what it depends on.
+
     /// What a name may begin with, besides the underscore.
     ghost starts: { Self → ℕ → Bool };
 

@@ -15,7 +15,7 @@ pub struct Malformed {
 pub struct Scalars<'a> {
     // What is left of the bytes.
     rest: &'a [u8],
-    // How many there were.
+    // How many there were: a number beside the slice, since of what has been read only the length is asked for.
     len: usize,
 }
 
@@ -78,6 +78,8 @@ fn is_tail(b: u8) -> bool
     0x80 <= b && b <= 0xBF
 }
 
+// One function for each width here and below, as the format's own table has a row for each: with the width as a parameter
+// the rows would have to be told apart again inside.
 fn is_two(a: u8, b: u8) -> bool
     ensures { result ≡ two_bytes a b }
 {

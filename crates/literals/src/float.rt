@@ -109,6 +109,7 @@ pub enum Width {
     F64,
 }
 
+// A match and no conversion by a trait: the name of a width is one of the things to ask of it.
 impl Width {
     /// What names the width behind a number.
     pub fn suffix(self) -> &'static [u8]

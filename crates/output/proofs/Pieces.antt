@@ -53,6 +53,10 @@ module _ {X : Type 0} {room : X → ℕ} {took : X → List ℕ → X → Type 0
   puts_exit (Ok v) e p = cc
   puts_exit (Err v) e p = p
 
+  -- both at once: a piece did not fit, and that is returned
+  pub puts_ends : {a b : X} {x : List ℕ} (y : List ℕ) {T E : Type 0} (s : Result T E) → is_err s ≡ true → Puts room took a x false b → Puts room took a (x ++ y) (is_ok s) b
+  puts_ends y s e p = puts_exit s e (puts_stop y p)
+
   -- where the answer is true, all the bytes are taken
   pub puts_whole : {a b : X} {x : List ℕ} → Puts room took a x true b → took a x b
   puts_whole p = rw (all_front p) p.taken

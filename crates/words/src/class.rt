@@ -7,6 +7,7 @@ use chars::table::CharTable;
 use chars::text::Text;
 
 /// A class of characters, by what they may be in a RON text.
+// An enum and no closure that tests a character: contracts name the class.
 #[derive(Clone, Copy, PartialEq, Eq, Debug)]
 pub enum Class {
     /// Stands for itself in an escaped text.

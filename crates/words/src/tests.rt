@@ -7,7 +7,7 @@ use chars::ranges::{Range, Ranges};
 use chars::table::{Ascii, CharTable};
 use output::buffer::{Buffer, text};
 
-// Whether a word was answered as expected: by its text, or by the number of a refusal.
+// Whether a word was answered as expected: by its text, or by the number of a refusal, which is what users look up.
 fn gave(answer: Result<(), Refusal>, text: &[u8], expected: Result<&[u8], u8>) -> bool {
     match answer {
         Ok(()) => matches!(expected, Ok(word) if text == word),

@@ -1,5 +1,5 @@
 use Rattle.std.proofs.Common.{ap}
-use Rattle.output.proofs.Pieces.{puts_as, puts_then, puts_stop, puts_exit}
+use Rattle.output.proofs.Pieces.{puts_as, puts_then, puts_stop, puts_exit, puts_ends}
 use Rattle.words.specs.Numerals.{numeral}
 use Rattle.literals.specs.Integers.{sign}
 use Rattle.literals.proofs.Suffixes.{suffix_chosen}
@@ -7,7 +7,7 @@ use Rattle.literals.proofs.integer.put_integer.Goals as goal
 
 pub returns-in_err-put_sign : goal.returns-in_err-put_sign
 returns-in_err-put_sign g c =
-    puts_exit _ c.from_residual.ensures.0 (puts_stop _ (puts_as (ap sign c.is_negative.ensures) c.in_err-put_sign.ensures))
+    puts_ends _ _ c.from_residual.ensures.0 (puts_as (ap sign c.is_negative.ensures) c.in_err-put_sign.ensures)
 
 pub returns-in_err-put_decimal : goal.returns-in_err-put_decimal
 returns-in_err-put_decimal g c =

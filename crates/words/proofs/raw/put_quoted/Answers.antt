@@ -1,8 +1,8 @@
-use Rattle.output.proofs.Pieces.{puts_then, puts_stop, puts_exit}
+use Rattle.output.proofs.Pieces.{puts_then, puts_stop, puts_exit, puts_ends}
 use Rattle.words.proofs.raw.put_quoted.Goals as goal
 
 pub returns-in_err-put : goal.returns-in_err-put
-returns-in_err-put g c = puts_exit _ c.from_residual.ensures.0 (puts_stop _ c.in_err-put.ensures.puts)
+returns-in_err-put g c = puts_ends _ _ c.from_residual.ensures.0 c.in_err-put.ensures.puts
 
 pub returns-in_err-put-2 : goal.returns-in_err-put-2
 returns-in_err-put-2 g c =
