@@ -1,7 +1,8 @@
 //! The forms of a batch name, as RON text.
-ghost use Rattle.std.specs.Prelude.{◌^◌, min, length, None, IfOk};
+ghost use Rattle.std.specs.Prelude.{None, IfOk};
 ghost use Rattle.batch_names.specs.Forms.{line_unless, forms, LinesReadBack};
 ghost use Rattle.chars.specs.Utf8.{decoded};
+ghost use Rattle.output.specs.Usable.{usable};
 ghost use Rattle.words.specs.Names.{identifier};
 ghost use Rattle.words.specs.Refusals.{text_refusal, name_refusal};
 ghost use Rattle.words.specs.Whole.{Whole, Shown, refused_or_short};
@@ -10,7 +11,7 @@ ghost use Rattle.words.specs.Writes.{Writes};
 use chars::table::CharTable;
 use grammar::no_text_has_two_readings;
 use grammar::read_back::literals_read_back;
-use output::buffer::{Buffer, text};
+use output::buffer::Buffer;
 use output::gauge::Gauge;
 use output::{Output, Sink};
 use words::name::{validate_identifier, write_identifier};
@@ -65,7 +66,7 @@ pub fn shown_forms<'m, T: CharTable>(
     table: &T,
     name: &[u8],
 ) -> Result<&'m [u8], Refusal>
-    ensures shown { let lines = forms (T.starts table.now) (T.continues table.now) (T.shown table.now) name.now in Shown (refused_or_short (text_refusal name.now) lines (min (length memory.old) (2 ^ 30))) lines result }
+    ensures shown { let lines = forms (T.starts table.now) (T.continues table.now) (T.shown table.now) name.now in Shown (refused_or_short (text_refusal name.now) lines (usable memory.old)) lines result }
     ensures back { IfOk result (λ lines. LinesReadBack (T.starts table.now) (T.continues table.now) (T.shown table.now) name.now lines.now) }
 {
     // These two do nothing; that what is shown reads back as the name rests on what they promise.
@@ -73,6 +74,5 @@ pub fn shown_forms<'m, T: CharTable>(
     no_text_has_two_readings(table);
     let mut buffer = Buffer::new(memory);
     write_forms(&mut buffer, table, name)?;
-    let (memory, len) = buffer.into_parts();
-    Ok(text(memory, len))
+    Ok(buffer.into_text())
 }

@@ -1,5 +1,5 @@
 //! Each name with its forms, or with the number and the reason of its refusal.
-ghost use Rattle.std.specs.Prelude.{◌≡◌, ℕ, ◌^◌, min, List, [], map, length, IfOk};
+ghost use Rattle.std.specs.Prelude.{◌≡◌, ℕ, List, [], map, IfOk};
 ghost use Rattle.inputs.specs.Lines.{LinesRead};
 ghost use Rattle.batch_names.specs.Tally.{outcome, Sums};
 
@@ -21,7 +21,7 @@ pub fn print_all<T: CharTable>(
     memory: &mut [u8],
     input: &[u8],
 ) -> anyhow::Result<Summary>
-    ensures { IfOk result (λ s. (lines : List (List ℕ)) × LinesRead input.now lines [] × Sums (map (outcome (T.starts table.now) (T.continues table.now) (T.shown table.now) (min (length memory.old) (2 ^ 30))) lines) s) }
+    ensures { IfOk result (λ s. (lines : List (List ℕ)) × LinesRead input.now lines [] × Sums (map (outcome (T.starts table.now) (T.continues table.now) (T.shown table.now) (usable memory.old)) lines) s) }
 {
     let mut summary = Summary::new();
     for (i, line) in Lines::new(input).enumerate() {
@@ -38,7 +38,7 @@ fn print_row<T: CharTable>(
     number: usize,
     name: &[u8],
 ) -> anyhow::Result<Result<Written, Refusal>>
-    ensures { IfOk result (λ o. o ≡ outcome (T.starts table.now) (T.continues table.now) (T.shown table.now) (min (length memory.old) (2 ^ 30)) name.now) }
+    ensures { IfOk result (λ o. o ≡ outcome (T.starts table.now) (T.continues table.now) (T.shown table.now) (usable memory.old) name.now) }
 {
     println!(rt; "line {number}")?;
     match shown_forms(memory, table, name) {

@@ -1,7 +1,7 @@
 -- The bytes and the characters of a text; what it is to check that bytes are UTF-8, and to take the first character off a text.
 -- Assumes nothing.
 use Rattle.std.specs.Prelude.{◌≡◌, ℕ, true, List, [], ◌∷◌, ◌++◌, Some, None, Ok, Err, Option, Result}
-use Rattle.chars.specs.Utf8.{scalar, encode, decoded, MalformedAt}
+use Rattle.chars.specs.Utf8.{scalar, encode, utf8, decoded, MalformedAt}
 use Rattle.chars.specs.declared.text.Text.{Text}
 use Rattle.chars.specs.declared.utf8.Malformed.{Malformed}
 
@@ -13,7 +13,7 @@ characters t = decoded (text_bytes t)
 
 -- bytes that are UTF-8 are the text of themselves; of others it is told where they are not
 abbrev pub Checked : List ℕ → Result Text Malformed → Type 0
-Checked s (Ok t) = MalformedAt s None × (text_bytes t ≡ s)
+Checked s (Ok t) = (utf8 s ≡ true) × (text_bytes t ≡ s)
 Checked s (Err e) = MalformedAt s (Some e.at)
 
 -- a text that is not empty is its first character and the text behind it, in bytes and in characters

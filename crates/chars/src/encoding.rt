@@ -4,8 +4,9 @@ ghost use Rattle.chars.specs.Encoding.{bytes_of};
 ghost use Rattle.chars.specs.Utf8.{encode, low_six};
 
 /// The one to four bytes of a character, held without a heap.
-// An array for each width: with one of four bytes a length would have to stand beside it.
-#[derive(Clone, Copy)]
+// An array for each width: with one of four bytes a length would have to stand beside it. The library's `encode_utf8` has its
+// own definition of these bytes, and here they are those of RFC 3629.
+#[derive(Clone, Copy, PartialEq, Eq, Debug)]
 pub enum Encoded {
     One([u8; 1]),
     Two([u8; 2]),

@@ -1,7 +1,6 @@
 //! The table that is made of a list of ranges of characters.
 ghost use Rattle.std.specs.Prelude.{◌≡◌, Bool, Ok, Err};
-ghost use Rattle.chars.specs.Blanks.{none_in};
-ghost use Rattle.chars.specs.Blanks.{blanks};
+ghost use Rattle.chars.specs.Blanks.{blanks, none_in};
 ghost use Rattle.chars.specs.RangeChecks.{agreeing, classed, fits, gap, good};
 ghost use Rattle.chars.specs.Ranges.{IsTable, starting, continuing, showing, holds, whole, in_set};
 
@@ -51,6 +50,7 @@ impl BadTable {
     }
 }
 
+// By hand, and not by a derive of `thiserror`: the number is that of the constant.
 impl fmt::Display for BadTable {
     fn fmt<W: fmt::Write>(&self, f: &mut fmt::Formatter<W>) -> fmt::Result {
         write!(
@@ -64,12 +64,12 @@ impl fmt::Display for BadTable {
 impl Error for BadTable {}
 
 impl<'a> Ranges<'a> {
-    ghost use Rattle.chars.specs.Searches.{Means, found};
+    ghost use Rattle.chars.specs.Searches.{found};
 
     /// The table of these ranges. Refused unless they are at most 4,096, of scalar values alone, in order and apart, and keep
     /// the laws of tables: what begins a name may go on with it, ASCII is in the sets of the ASCII table, and no blank is in a name.
     pub fn new(ranges: &'a [Range]) -> Result<Ranges<'a>, BadTable>
-        ensures { elim result [ Ok t ↦ IsTable ranges.now × Means t ranges.now | Err _ ↦ (IsTable ranges.now → ⊥) ] }
+        ensures { elim result [ Ok t ↦ IsTable ranges.now × (t.ranges.now ≡ ranges.now) | Err _ ↦ (IsTable ranges.now → ⊥) ] }
     {
         if is_good(ranges) {
             Ok(Ranges { ranges })
@@ -96,7 +96,8 @@ impl<'a> CharTable for Ranges<'a> {
 
     ghost lawful = { λ t. t.is_table.lawful };
 
-    // Three alike: with the set as a closure, a contract would have to say what the closure tells.
+    // ASCII is asked most, and has its own quick way. The three are alike: with the set as a closure, a contract would have
+    // to say what the closure tells.
     fn is_xid_start(&self, c: char) -> bool {
         if c.is_ascii() {
             Ascii.is_xid_start(c)
@@ -128,7 +129,7 @@ impl Range {
     fn holds(self, c: u32) -> bool
         ensures { result ≡ holds self c }
     {
-        self.first <= c && c <= self.last
+        (self.first..=self.last).contains(&c)
     }
 
     // Whether all of the range stands before the character, or holds it, or stands behind it.
@@ -168,6 +169,7 @@ impl Range {
     fn is_classed(self) -> bool
         ensures { result ≡ classed self }
     {
+        // A `for`, which knows the bound that the cast needs.
         for c in self.first..=self.last.min(0x7F) {
             if !self.is_agreeing(c as u8) {
                 return false;

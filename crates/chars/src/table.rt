@@ -33,7 +33,7 @@ pub trait CharTable {
 }
 
 /// The table of ASCII alone: names are of its letters, digits and underscore, and whatever is not printable ASCII is escaped.
-#[derive(Clone, Copy)]
+#[derive(Clone, Copy, PartialEq, Eq, Debug)]
 pub struct Ascii;
 
 impl CharTable for Ascii {

@@ -4,7 +4,7 @@ ghost use Rattle.chars.specs.Utf8.{utf8};
 
 use crate::utf8::{Malformed, Scalars, front};
 
-/// Bytes that are UTF-8. Only `Text::new` makes them of bytes, so that whoever has a text need not check it again.
+/// Bytes that are UTF-8, as RFC 3629 has it; the library's `str` has its own definition. Only `Text::new` makes them of bytes, so that whoever has a text need not check it again.
 #[derive(Clone, Copy)]
 pub struct Text<'a> {
     bytes: &'a [u8],

@@ -64,22 +64,20 @@ impl<'a> Scalars<'a> {
 }
 
 /// A theorem: what decodes is scalar values whose bytes these are, the bytes of scalar values decode to them,
-/// and so no bytes spell two lists of scalar values. The answer says nothing; the contract is the theorem.
-pub fn decoding_is_exact() -> bool
+/// and so no bytes spell two lists of scalar values. The function does nothing; its contract is the theorem.
+pub fn decoding_is_exact()
     ensures { DecodingIsExact }
-{
-    true
-}
+{}
 
 // A byte behind the first of a sequence.
 fn is_tail(b: u8) -> bool
     ensures { result ≡ tail b }
 {
-    0x80 <= b && b <= 0xBF
+    matches!(b, 0x80..=0xBF)
 }
 
 // One function for each width here and below, as the format's own table has a row for each: with the width as a parameter
-// the rows would have to be told apart again inside.
+// the rows would have to be told apart again inside. The subtractions stop at 0, as those of the definitions do.
 fn is_two(a: u8, b: u8) -> bool
     ensures { result ≡ two_bytes a b }
 {

@@ -77,7 +77,8 @@ pub fn serialize_escaped_byte_str<O: Output>(out: &mut O, value: &[u8]) -> Resul
     ensures { Writes O.room O.took (bytes_refusal value.now) out.old (escaped_byte_str value.now) result out.new }
 {
     check_bytes(value)?;
-    Ok(put_escaped_byte_str(out, value)?)
+    put_escaped_byte_str(out, value)?;
+    Ok(())
 }
 
 // A text, like text without escapes.

@@ -31,5 +31,6 @@ pub fn serialize_char<O: Output>(out: &mut O, value: u32) -> Result<(), Refusal>
     ensures { Writes O.room O.took (char_refusal value) out.old (character value) result out.new }
 {
     let c = char::from_u32(value).ok_or(Refusal::NotScalar)?;
-    Ok(put_char(out, c)?)
+    put_char(out, c)?;
+    Ok(())
 }

@@ -35,10 +35,7 @@ fn is_digits(s: &[u8]) -> bool
 fn is_exponent(s: &[u8]) -> bool
     ensures { result ≡ exponent s.now }
 {
-    match s {
-        [b'-', rest @ ..] => is_digits(rest),
-        _ => is_digits(s),
-    }
+    is_digits(s.strip_prefix(b"-").unwrap_or(s))
 }
 
 // Behind the digits of a fraction: the end, or `e` and an exponent.
@@ -109,7 +106,6 @@ pub enum Width {
     F64,
 }
 
-// A match and no conversion by a trait: the name of a width is one of the things to ask of it.
 impl Width {
     /// What names the width behind a number.
     pub fn suffix(self) -> &'static [u8]
@@ -152,5 +148,6 @@ pub fn serialize_float<O: Output>(
 {
     check_float(text)?;
     let suffix = number_suffixes.then_some(width.suffix());
-    Ok(put_float(out, text, suffix)?)
+    put_float(out, text, suffix)?;
+    Ok(())
 }

@@ -40,7 +40,7 @@ pub trait Integer {
     }
 }
 
-// Eight impls alike: each type names its own suffix, and no macro may write an impl here.
+// Eight impls alike: each names its own suffix, and an impl that a macro writes has no ghost members.
 impl Integer for i8 {
     ghost value = { λ n. n };
 
@@ -184,5 +184,6 @@ pub fn serialize_integer<O: Output, N: Integer>(
 ) -> Result<(), Refusal>
     ensures { Writes O.room O.took None out.old (integer (N.value n.now) number_suffixes N.suffix) result out.new }
 {
-    Ok(put_integer(out, n, number_suffixes)?)
+    put_integer(out, n, number_suffixes)?;
+    Ok(())
 }

@@ -2,3 +2,4 @@ pub mod Puts
 pub mod Sinks
 pub mod Buffers
 pub mod Pairs
+pub mod Usable

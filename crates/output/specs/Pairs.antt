@@ -1,5 +1,5 @@
 -- The text of a pair of lent memories, `pair_text`, and how many bytes it can still take, `pair_space`.
--- `in_first` and `in_second` say how much of the text stands in each memory: the second has some only where the first is full.
+-- `in_first` and `in_second` say how much of the text stands in each memory: the second has some only where the first is full, which the type of pairs says.
 -- `KeepsBoth` says what of the memories no call changes.
 use Rattle.std.specs.Prelude.{ℕ, ◌+◌, List, ◌++◌}
 use Rattle.output.specs.Buffers.{buffer_text, buffer_space, Keeps}

@@ -1,5 +1,6 @@
 //! A sink over memory that a caller lends.
-ghost use Rattle.std.specs.Prelude.{◌≡◌, ◌+◌, ◌^◌, ◌≤◌, min, [], ◌++◌, length, take};
+ghost use Rattle.std.specs.Prelude.{◌≡◌, ◌≤◌, [], length, take};
+ghost use Rattle.output.specs.Usable.{usable};
 
 use crate::{Full, Sink};
 
@@ -14,7 +15,7 @@ pub struct Buffer<'a> {
     mem: &'a mut [u8],
     // A length beside the memory, since the memory is lent and there is no heap.
     used: usize,
-    ghost fits: { used ≤ min (length mem.now) (2 ^ 30) },
+    ghost fits: { used ≤ usable mem.now },
 }
 
 impl<'a> Buffer<'a> {
@@ -23,7 +24,7 @@ impl<'a> Buffer<'a> {
     /// A buffer with no text yet, which leaves the memory as it is.
     pub fn new(mem: &'a mut [u8]) -> Buffer<'a>
         ensures text { buffer_text result ≡ [] }
-        ensures space { buffer_space result ≡ min (length mem.old) (2 ^ 30) }
+        ensures space { buffer_space result ≡ usable mem.old }
         ensures memory { result.mem.now ≡ mem.old }
         ensures place { result.mem.ghost_name ≡ mem.entry.ghost_name }
     {
@@ -31,7 +32,7 @@ impl<'a> Buffer<'a> {
     }
 
     /// Gives the memory back, and how many of its first bytes are the text.
-    // The two are no struct, since callers want the whole memory that they lent.
+    // Memory and length are no struct, since this is for callers that want the whole memory that they lent.
     pub fn into_parts(self) -> (&'a mut [u8], usize)
         ensures text { take result.1 result.0.now ≡ buffer_text self.entry }
         ensures len { result.1 ≡ length (buffer_text self.entry) }
@@ -40,6 +41,14 @@ impl<'a> Buffer<'a> {
     {
         let Buffer { mem, used } = self;
         (mem, used)
+    }
+
+    /// The text, as a part of the memory that was lent.
+    pub fn into_text(self) -> &'a [u8]
+        ensures { result.now ≡ buffer_text self.entry }
+    {
+        let Buffer { mem, used } = self;
+        &mem[..used]
     }
 }
 

@@ -6,7 +6,7 @@ ghost use Rattle.std.proofs.lemmas.Grind.{common_steps};
 use crate::{Full, Output};
 
 /// Knows how many more bytes fit, and nothing of those that it took.
-#[derive(Clone, Copy)]
+#[derive(Clone, Copy, PartialEq, Eq, Debug)]
 pub struct Gauge {
     room: usize,
 }

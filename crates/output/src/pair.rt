@@ -1,5 +1,6 @@
 //! A sink over two memories that a caller lends, which fills one and then the other.
-ghost use Rattle.std.specs.Prelude.{◌≡◌, ◌+◌, ◌^◌, ◌<◌, min, [], ◌++◌, length, take};
+ghost use Rattle.std.specs.Prelude.{◌≡◌, ◌+◌, ◌<◌, min, [], ◌++◌, length, take};
+ghost use Rattle.output.specs.Usable.{usable};
 ghost use Rattle.output.specs.Buffers.{buffer_space};
 
 use crate::buffer::Buffer;
@@ -22,7 +23,7 @@ impl<'a> Pair<'a> {
     /// A pair with no text yet, which leaves both memories as they are.
     pub fn new(first: &'a mut [u8], second: &'a mut [u8]) -> Pair<'a>
         ensures text { pair_text result ≡ [] }
-        ensures space { pair_space result ≡ min (length first.old) (2 ^ 30) + min (length second.old) (2 ^ 30) }
+        ensures space { pair_space result ≡ usable first.old + usable second.old }
         ensures first { result.first.mem.now ≡ first.old }
         ensures second { result.second.mem.now ≡ second.old }
         ensures first_place { result.first.mem.ghost_name ≡ first.entry.ghost_name }
@@ -39,7 +40,7 @@ impl<'a> Pair<'a> {
     pub fn into_parts(self) -> ((&'a mut [u8], usize), (&'a mut [u8], usize))
         ensures text { take result.0.1 result.0.0.now ++ take result.1.1 result.1.0.now ≡ pair_text self.entry }
         ensures len { result.0.1 + result.1.1 ≡ length (pair_text self.entry) }
-        ensures cut { result.0.1 ≡ min (length (pair_text self.entry)) (min (length self.entry.first.mem.now) (2 ^ 30)) }
+        ensures cut { result.0.1 ≡ min (length (pair_text self.entry)) (usable self.entry.first.mem.now) }
         ensures first_len { result.0.1 ≡ in_first self.entry }
         ensures second_len { result.1.1 ≡ in_second self.entry }
         ensures first { result.0.0.now ≡ self.entry.first.mem.now }

@@ -1,7 +1,8 @@
 //! A document of one value that opens no frame.
-ghost use Rattle.std.specs.Prelude.{◌^◌, min, cond, length, None, codes};
+ghost use Rattle.std.specs.Prelude.{cond, None, codes};
 ghost use Rattle.chars.specs.Utf8.{decoded};
 ghost use Rattle.literals.specs.Bytes.{bytes_refusal, escaped_byte_str, unescaped_or_raw_byte_str};
+ghost use Rattle.output.specs.Usable.{usable};
 ghost use Rattle.words.specs.Escapes.{escaped_str};
 ghost use Rattle.words.specs.Names.{identifier};
 ghost use Rattle.words.specs.RawText.{unescaped_or_raw_str};
@@ -16,7 +17,7 @@ use literals::character::serialize_char;
 use literals::float::{Width, serialize_float};
 use literals::integer::serialize_integer;
 use output::Output;
-use output::buffer::{Buffer, text};
+use output::buffer::Buffer;
 use words::name::{validate_identifier, write_identifier};
 use words::raw::serialize_unescaped_or_raw_str;
 use words::refusal::Refusal;
@@ -166,10 +167,9 @@ pub fn shown_value<'m, T: CharTable>(
     settings: Settings,
     value: &Value,
 ) -> Result<&'m [u8], Refusal>
-    ensures { Shown (refused_or_short (value_refusal (T.starts table.now) (T.continues table.now) (T.shown table.now) settings value.now) (value_text (T.starts table.now) (T.continues table.now) (T.shown table.now) settings value.now) (min (length memory.old) (2 ^ 30))) (value_text (T.starts table.now) (T.continues table.now) (T.shown table.now) settings value.now) result }
+    ensures { Shown (refused_or_short (value_refusal (T.starts table.now) (T.continues table.now) (T.shown table.now) settings value.now) (value_text (T.starts table.now) (T.continues table.now) (T.shown table.now) settings value.now) (usable memory.old)) (value_text (T.starts table.now) (T.continues table.now) (T.shown table.now) settings value.now) result }
 {
     let mut buffer = Buffer::new(memory);
     put_value(&mut buffer, table, settings, value)?;
-    let (memory, len) = buffer.into_parts();
-    Ok(text(memory, len))
+    Ok(buffer.into_text())
 }

@@ -1,10 +1,8 @@
 -- What is measured before it is written goes into a sink as a whole.
 use Rattle.std.proofs.Common.{◌≡◌, ℕ, ◌-◌, true, false, cond, leb, List, [], ◌++◌, length, is_ok, IsErrAnd, Some, None, Ok, Err, Option, Result, sym, refl, ap, ◌∙◌, arith, Bor}
 use Rattle.std.proofs.lemmas.Result.{err_from_is_err_and}
-use Rattle.std.proofs.lemmas.Bool.{true≢false}
-use Rattle.output.specs.Puts.{Puts}
 use Rattle.output.specs.Sinks.{Steady, Appended}
-use Rattle.output.proofs.Pieces.{puts_value, puts_whole, puts_left}
+use Rattle.output.proofs.Pieces.{puts_value, puts_whole}
 use Rattle.words.specs.Refusals.{unless}
 use Rattle.words.specs.Whole.{Whole, refused_or_short, Shown}
 use Rattle.words.specs.Writes.{Writes}
@@ -31,24 +29,9 @@ module _ {X : Type 0} {text : X → List ℕ} {space : X → ℕ} {keeps : X →
         same = λ _. refl;
       }
 
-  fitted : {a b : X} {x : List ℕ} {r : Result (Unit {0}) Refusal} → leb (length x) (space a) ≡ true → Puts space (Appended text keeps) a x (is_ok r) b → Whole text space keeps None a x r b
-  fitted {r = Err e} f p = absurd (true≢false (sym f ∙ sym (puts_value p)))
-  fitted {r = Ok u} f p = record {
-    value = ap (λ t. unless (cond t None (Some NoSpace)) tt) (sym f);
-    after = (puts_whole p).grown;
-    left = omega (arith, puts_left p);
-    kept = (puts_whole p).kept;
-    same = λ h. absurd (true≢false h);
-  }
-
 module _ {X Y : Type 0} {text : X → List ℕ} {space : X → ℕ} {keeps : X → X → Type 0} {room : Y → ℕ} {took : Y → List ℕ → Y → Type 0} where
   pub refused_whole : {o : Option Refusal} {g h : Y} {a : X} {x : List ℕ} {e : Refusal} {r : Result (Unit {0}) Refusal} → Steady keeps → room g ≡ space a → Writes room took o g x (Err e) h → r ≡ Err e → Whole text space keeps o a x r a
   refused_whole {o = o} {a = a} steady q w p = unwritten o steady p (refusal_is o (space a) q w)
-
-  -- what the gauge takes, the sink takes
-  pub put_whole : (o : Option Refusal) {g h : Y} {a b : X} {x : List ℕ} {u : Unit {0}} {r : Result (Unit {0}) Refusal} → room g ≡ space a → Writes room took o g x (Ok u) h → Writes space (Appended text keeps) o a x r b → Whole text space keeps o a x r b
-  put_whole (Some e) q w v = let z : ◌≡◌ {A = ℕ} 0 1 = cc (w.refused e refl).0 in absurd (omega arith)
-  put_whole None {x = x} q w v = fitted (ap (leb (length x)) (sym q) ∙ sym (puts_value (w.puts refl))) (v.puts refl)
 
 -- what is shown of a text that is refused
 pub shown_refused : (o : Option Refusal) (x : List ℕ) (s : Result (Bor (List ℕ)) Refusal) (e : Refusal) → IsErrAnd s (λ y. y ≡ e) → ◌≡◌ {A = Result (Unit {0}) Refusal} (Err e) (unless o tt) → Shown o x s

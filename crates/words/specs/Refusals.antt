@@ -46,8 +46,3 @@ unless (Some e) x = Err e
 abbrev pub IsText : List ℕ → Result Text Refusal → Type 0
 IsText s (Ok t) = (text_refusal s ≡ None) × (text_bytes t ≡ s)
 IsText s (Err e) = text_refusal s ≡ Some e
-
--- the text of a name, unless it is refused
-abbrev pub IsName : (ℕ → Bool) → List ℕ → Result Text Refusal → Type 0
-IsName continues s (Ok t) = (name_refusal continues s ≡ None) × (text_bytes t ≡ s)
-IsName continues s (Err e) = name_refusal continues s ≡ Some e

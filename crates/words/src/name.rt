@@ -1,10 +1,11 @@
 //! Names, bare or behind `r#`.
-ghost use Rattle.std.specs.Prelude.{◌≡◌, ◌++◌, is_ok};
+ghost use Rattle.std.specs.Prelude.{◌≡◌, is_ok};
 ghost use Rattle.chars.specs.Texts.{characters};
 ghost use Rattle.chars.specs.Utf8.{decoded};
 ghost use Rattle.output.specs.Puts.{Puts};
 ghost use Rattle.words.specs.Names.{reserved, name, first_char, bare, form, formed, identifier};
-ghost use Rattle.words.specs.Refusals.{unless, name_refusal, IsName};
+ghost use Rattle.words.specs.Inner.{IsName};
+ghost use Rattle.words.specs.Refusals.{unless, name_refusal};
 ghost use Rattle.words.specs.Writes.{Writes};
 
 use crate::class::{Class, is_all_of};
@@ -48,7 +49,7 @@ fn is_name<T: CharTable>(table: &T, text: Text) -> bool
     !text.as_bytes().is_empty() && is_all_of(table, Class::Raw, text)
 }
 
-// The words that mean something else than a name.
+// The words that mean something else than a name. A pattern binds the first byte and the rest, as the project has laid down.
 fn is_reserved(name: &[u8]) -> bool
     ensures { result ≡ reserved name.now }
 {
@@ -102,15 +103,11 @@ fn put_formed<O: Output>(out: &mut O, form: Form, name: &[u8]) -> Result<(), Ful
 {
     match form {
         Form::Bare => out.put(name),
-        Form::Raw => put_behind(out, b"r#", name),
+        Form::Raw => {
+            out.put(b"r#")?;
+            out.put(name)
+        }
     }
-}
-
-fn put_behind<O: Output>(out: &mut O, front: &[u8], back: &[u8]) -> Result<(), Full>
-    ensures { Puts O.room O.took out.old (front.now ++ back.now) (is_ok result) out.new }
-{
-    out.put(front)?;
-    out.put(back)
 }
 
 /// Writes a name, bare or behind `r#`.

@@ -15,10 +15,10 @@ use output::{Full, Output};
 fn has_quote(text: &[u8]) -> bool
     ensures { result ≡ holds_quote text.now }
 {
-    text.iter().any(|b| *b == b'"' || *b == b'\\')
+    text.iter().any(|b| matches!(b, b'"' | b'\\'))
 }
 
-// The longest run of hashes anywhere in the text.
+// The longest run of hashes anywhere in the text: two numbers in one pass, as the definition goes on from byte to byte.
 fn count_hashes(text: &[u8]) -> usize
     ensures { result ≡ longest_hashes text.now }
 {

@@ -5,7 +5,7 @@ use crate::refusal::Refusal;
 use crate::text::serialize_escaped_str;
 use chars::ranges::{Range, Ranges};
 use chars::table::{Ascii, CharTable};
-use output::buffer::{Buffer, text};
+use output::buffer::Buffer;
 
 // Whether a word was answered as expected: by its text, or by the number of a refusal, which is what users look up.
 fn gave(answer: Result<(), Refusal>, text: &[u8], expected: Result<&[u8], u8>) -> bool {
@@ -23,24 +23,21 @@ fn name_in_gives<T: CharTable>(table: &T, name: &[u8], expected: Result<&[u8], u
     let mut mem = [0u8; 8];
     let mut out = Buffer::new(&mut mem);
     let answer = write_identifier(&mut out, table, name);
-    let (mem, len) = out.into_parts();
-    gave(answer, text(mem, len), expected)
+    gave(answer, out.into_text(), expected)
 }
 
 fn raw_gives(value: &[u8], expected: Result<&[u8], u8>) -> bool {
     let mut mem = [0u8; 11];
     let mut out = Buffer::new(&mut mem);
     let answer = serialize_unescaped_or_raw_str(&mut out, value);
-    let (mem, len) = out.into_parts();
-    gave(answer, text(mem, len), expected)
+    gave(answer, out.into_text(), expected)
 }
 
 fn escaped_gives(value: &[u8], expected: Result<&[u8], u8>) -> bool {
     let mut mem = [0u8; 12];
     let mut out = Buffer::new(&mut mem);
     let answer = serialize_escaped_str(&mut out, &Ascii, value);
-    let (mem, len) = out.into_parts();
-    gave(answer, text(mem, len), expected)
+    gave(answer, out.into_text(), expected)
 }
 
 // Characters that are shown; that a name may go on with; and that it may begin with too.

@@ -16,7 +16,7 @@ use chars::text::Text;
 use output::{Full, Output};
 
 // How a character is written in an escaped text.
-#[derive(Clone, Copy)]
+#[derive(Clone, Copy, PartialEq, Eq, Debug)]
 enum Escape {
     // as it is
     Plain,
@@ -38,7 +38,7 @@ fn escape_of<T: CharTable>(table: &T, c: char) -> Escape
         '"' => Escape::Short(b'"'),
         '\'' => Escape::Short(b'\''),
         '\\' => Escape::Short(b'\\'),
-        // Every table shows the printable characters of ASCII.
+        // Every table shows the printable characters of ASCII, so they are told without asking it.
         ' '..='~' => Escape::Plain,
         c if table.is_shown(c) => Escape::Plain,
         _ => Escape::Code,

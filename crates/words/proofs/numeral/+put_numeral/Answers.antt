@@ -1,15 +1,11 @@
-use Rattle.std.proofs.Common.{[], ◌∷◌, sym, ap, ◌∙◌, arith}
+use Rattle.std.proofs.Common.{[], ◌∷◌, sym, ap, ◌∙◌}
 use Rattle.output.proofs.Pieces.{puts_as, puts_then, puts_stop, puts_exit}
-use Rattle.words.proofs.Numbers.{fewer, numeral_one, numeral_step}
+use Rattle.words.proofs.Numbers.{numeral_one, numeral_step}
 use Rattle.words.proofs.numeral.+put_numeral.Goals as goal
 
 pub returns-then-n-base : goal.returns-then-n-base
 returns-then-n-base g t c =
     puts_as (ap (λ d. d ∷ []) c.digit.ensures ∙ sym (numeral_one c.args.base c.args.n c.requires.base_low c.if-n-base.true)) c.put.ensures.puts
-
-pub put_numeral-requires : goal.put_numeral-requires
-put_numeral-requires g t c κs within =
-    (omega (arith, c.decreases, fewer c.args.base c.args.n c.requires.base_low c.if-n-base.false), (within, (c.requires.base_low, c.requires.base_high)))
 
 pub returns-in_err-put_numeral : goal.returns-in_err-put_numeral
 returns-in_err-put_numeral g t c =

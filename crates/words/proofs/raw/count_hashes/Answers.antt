@@ -1,5 +1,5 @@
 use Rattle.std.proofs.Common.{◌+◌, max, sym, ap, ◌∙◌, subst₂, arith}
-use Rattle.words.proofs.Hashes.{Counted, counted_none, counted_hash, counted_other, counted_all}
+use Rattle.words.proofs.Hashes.{Counted, counted_none, counted_hash, counted_other}
 use Rattle.words.proofs.raw.count_hashes.Goals as goal
 use Rattle.words.proofs.raw.count_hashes.Goals.{then-b-eq35, else-b-eq35}
 
@@ -24,6 +24,3 @@ loop-b-preserved c =
             (counted_other s c.loop-b.b-index c.loop-b.run c.loop-b.longest c.loop-b-test.true i.1 w.if-b-eq35.false i.2),
       )
     ]
-
-pub returns : goal.returns
-returns c = counted_all c.args.text.now c.loop-b.b-index c.loop-b.run c.loop-b.longest c.loop-b-test.false c.loop-b.invariant.1 c.loop-b.invariant.2

@@ -1,10 +1,7 @@
 use Rattle.std.proofs.Common.{replicate, ap}
-use Rattle.output.proofs.Pieces.{puts_as, puts_then, puts_stop, puts_exit, puts_ends}
+use Rattle.output.proofs.Pieces.{puts_as, puts_then, puts_stop, puts_exit}
 use Rattle.words.specs.RawText.{hash}
 use Rattle.words.proofs.raw.put_fenced.Goals as goal
-
-pub returns-in_err-put : goal.returns-in_err-put
-returns-in_err-put g c = puts_ends _ _ c.from_residual.ensures.0 c.in_err-put.ensures.puts
 
 pub returns-in_err-put_hashes : goal.returns-in_err-put_hashes
 returns-in_err-put_hashes g c =

@@ -1,13 +1,5 @@
-use Rattle.output.proofs.Pieces.{puts_then, puts_stop, puts_exit, puts_ends}
+use Rattle.output.proofs.Pieces.{puts_then}
 use Rattle.words.proofs.raw.put_quoted.Goals as goal
-
-pub returns-in_err-put : goal.returns-in_err-put
-returns-in_err-put g c = puts_ends _ _ c.from_residual.ensures.0 c.in_err-put.ensures.puts
-
-pub returns-in_err-put-2 : goal.returns-in_err-put-2
-returns-in_err-put-2 g c =
-    puts_exit _ c.from_residual-in_err-put-2.ensures.0
-    (puts_then g.met.O.Output.adds c.in_ok-put.ensures.puts (puts_stop _ c.in_err-put-2.ensures.puts))
 
 pub returns : goal.returns
 returns g c =

@@ -1,11 +1,6 @@
-use Rattle.output.proofs.Pieces.{puts_as, puts_then, puts_stop, puts_exit}
+use Rattle.output.proofs.Pieces.{puts_as, puts_then}
 use Rattle.words.proofs.Hashes.{raw_is, quoted_is}
 use Rattle.words.proofs.raw.put_unescaped_or_raw_str.Goals as goal
-
-pub returns-in_err-put : goal.returns-in_err-put
-returns-in_err-put g c =
-    puts_exit _ c.from_residual.ensures.0
-    (puts_as (raw_is c.args.text _ c.as_bytes-bytes.ensures c.if-has_quote.ensures) (puts_stop _ c.in_err-put.ensures.puts))
 
 pub returns-in_ok-put : goal.returns-in_ok-put
 returns-in_ok-put g c =

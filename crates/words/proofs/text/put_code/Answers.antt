@@ -1,10 +1,7 @@
 use Rattle.std.proofs.Common.{ap}
-use Rattle.output.proofs.Pieces.{puts_as, puts_then, puts_stop, puts_exit, puts_ends}
+use Rattle.output.proofs.Pieces.{puts_as, puts_then, puts_stop, puts_exit}
 use Rattle.words.specs.Numerals.{numeral}
 use Rattle.words.proofs.text.put_code.Goals as goal
-
-pub returns-in_err-put : goal.returns-in_err-put
-returns-in_err-put g c = puts_ends _ _ c.from_residual.ensures.0 c.in_err-put.ensures.puts
 
 pub returns-in_err-put_numeral : goal.returns-in_err-put_numeral
 returns-in_err-put_numeral g c =

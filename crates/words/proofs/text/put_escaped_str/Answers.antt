@@ -1,8 +1,5 @@
-use Rattle.output.proofs.Pieces.{puts_then, puts_stop, puts_exit, puts_ends}
+use Rattle.output.proofs.Pieces.{puts_then, puts_stop, puts_exit}
 use Rattle.words.proofs.text.put_escaped_str.Goals as goal
-
-pub returns-in_err-put : goal.returns-in_err-put
-returns-in_err-put g c = puts_ends _ _ c.from_residual.ensures.0 c.in_err-put.ensures.puts
 
 pub returns-in_err-put_escapes : goal.returns-in_err-put_escapes
 returns-in_err-put_escapes g c =
