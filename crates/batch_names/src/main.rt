@@ -20,6 +20,7 @@ fn main(rt: HostRuntime) -> anyhow::Result<()> {
     run(&rt)
 }
 
+// The two calls differ in the type of the table, whose text and ranges have to last as long as it does.
 fn run(rt: &HostRuntime) -> anyhow::Result<()> {
     let mut memory = vec![in rt.alloc(); 0; space(rt)?]?;
     let mut input = Vec::new(rt.alloc());

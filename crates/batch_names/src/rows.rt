@@ -1,6 +1,7 @@
 //! Each name with its forms, or with the number and the reason of its refusal.
 ghost use Rattle.std.specs.Prelude.{◌≡◌, ℕ, List, [], map, IfOk};
 ghost use Rattle.inputs.specs.Lines.{LinesRead};
+ghost use Rattle.output.specs.Usable.{usable};
 ghost use Rattle.batch_names.specs.Tally.{outcome, Sums};
 
 use crate::forms::shown_forms;
@@ -14,6 +15,7 @@ use words::class::{Class, is_text_of};
 use words::name::identifier_form;
 use words::refusal::Refusal;
 
+// The handle, the table and the memory are passed on one by one, since the contract speaks of each.
 /// Prints the forms of each line of the input, and answers the summary of all that was read.
 pub fn print_all<T: CharTable>(
     rt: &HostRuntime,
@@ -44,16 +46,15 @@ fn print_row<T: CharTable>(
     match shown_forms(memory, table, name) {
         Ok(forms) => {
             rt.stdout().write_all(forms)?;
-            let form = identifier_form(table, name).ok();
-            if form.is_none() {
-                let refusal = Refusal::InvalidIdentifier;
+            let form = identifier_form(table, name);
+            if let Err(refusal) = form {
                 let reason = Reason { refusal, name };
                 println!(rt; "{reason}")?;
             }
             Ok(Ok(Written {
                 bytes: forms.len(),
                 escaped: !is_text_of(table, Class::Plain, name),
-                form,
+                form: form.ok(),
             }))
         }
         Err(refusal) => {

@@ -10,7 +10,7 @@ use words::name::Form;
 use words::refusal::Refusal;
 
 /// A line whose forms were written.
-#[derive(Clone, Copy)]
+#[derive(Clone, Copy, PartialEq, Eq, Debug)]
 pub struct Written {
     /// How many bytes its forms have.
     pub bytes: usize,

@@ -1,5 +1,5 @@
 //! Lines of bytes.
-ghost use Rattle.std.specs.Prelude.{◌≡◌, ℕ, List, length};
+ghost use Rattle.std.specs.Prelude.{◌≡◌, ℕ, List};
 ghost use Rattle.std.specs.Iterator.{item_count};
 ghost use Rattle.inputs.specs.Lines.{Cut, GivesLine};
 

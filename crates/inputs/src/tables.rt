@@ -2,7 +2,6 @@
 ghost use Rattle.std.specs.Prelude.{◌≡◌, [], ◌++◌, Some, IfOk, IfErr, codes};
 ghost use Rattle.anyhow.specs.Error.{HasMessage};
 ghost use Rattle.chars.specs.Ranges.{IsTable};
-ghost use Rattle.chars.specs.Searches.{Means};
 ghost use Rattle.inputs.specs.TableLines.{range_line, RangesRead};
 
 use crate::fields::{split_field, take_byte};
@@ -42,9 +41,8 @@ pub fn read_ranges(heap: Global, text: &[u8]) -> anyhow::Result<Vec<Range>>
     ensures { IfOk result (λ v. RangesRead text.now v.items []) }
 {
     let mut ranges = Vec::new(heap);
-    let mut number = 0u64;
-    for line in Lines::new(text) {
-        number = number.saturating_add(1);
+    for (i, line) in Lines::new(text).enumerate() {
+        let number = i + 1;
         let Some(range) = range_of_line(line) else {
             return Err(anyhow!("line {number} of the table is no range"));
         };
@@ -55,7 +53,7 @@ pub fn read_ranges(heap: Global, text: &[u8]) -> anyhow::Result<Vec<Range>>
 
 /// The table of these ranges, or the message that they make none.
 pub fn table_of<'a>(ranges: &'a [Range]) -> anyhow::Result<Ranges<'a>>
-    ensures { IfOk result (λ t. IsTable ranges.now × Means t ranges.now) }
+    ensures { IfOk result (λ t. IsTable ranges.now × (t.ranges.now ≡ ranges.now)) }
 {
     Ok(Ranges::new(ranges)?)
 }

@@ -55,6 +55,7 @@ impl Refusal {
 }
 
 /// What refuses a word refuses the call that writes it.
+// Variant by variant: with a word's refusal inside a variant, the numbers would be no discriminants.
 impl From<WordRefusal> for Refusal {
     ghost from_gives = { λ e r. r ≡ of_word e };
 

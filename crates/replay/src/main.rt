@@ -19,6 +19,7 @@ fn main(rt: HostRuntime) -> anyhow::Result<()> {
     run(&rt)
 }
 
+// The two calls differ in the type of the table, whose text and ranges have to last as long as it does.
 fn run(rt: &HostRuntime) -> anyhow::Result<()> {
     let mut memory = vec![in rt.alloc(); 0; SPACE]?;
     let mut script = Vec::new(rt.alloc());

@@ -24,7 +24,7 @@ use words::refusal::Refusal;
 use words::text::serialize_escaped_str;
 
 /// What the words of a value depend on.
-#[derive(Clone, Copy)]
+#[derive(Clone, Copy, PartialEq, Eq, Debug)]
 pub struct Settings {
     /// Whether texts and byte strings are escaped.
     pub escape_strings: bool,
@@ -167,7 +167,7 @@ pub fn shown_value<'m, T: CharTable>(
     settings: Settings,
     value: &Value,
 ) -> Result<&'m [u8], Refusal>
-    ensures { Shown (refused_or_short (value_refusal (T.starts table.now) (T.continues table.now) (T.shown table.now) settings value.now) (value_text (T.starts table.now) (T.continues table.now) (T.shown table.now) settings value.now) (usable memory.old)) (value_text (T.starts table.now) (T.continues table.now) (T.shown table.now) settings value.now) result }
+    ensures { let text = value_text (T.starts table.now) (T.continues table.now) (T.shown table.now) settings value.now in Shown (refused_or_short (value_refusal (T.starts table.now) (T.continues table.now) (T.shown table.now) settings value.now) text (usable memory.old)) text result }
 {
     let mut buffer = Buffer::new(memory);
     put_value(&mut buffer, table, settings, value)?;

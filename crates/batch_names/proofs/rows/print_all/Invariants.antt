@@ -1,4 +1,5 @@
-use Rattle.std.proofs.Common.{ℕ, ◌^◌, min, List, map, length}
+use Rattle.std.proofs.Common.{ℕ, List, map}
+use Rattle.output.specs.Usable.{usable}
 use Rattle.std.specs.Iterator.Adapters.{enumerate_source}
 use Rattle.inputs.specs.Lines.{LinesRead}
 use Rattle.batch_names.specs.Tally.{outcome, Sums}
@@ -8,4 +9,4 @@ abbrev pub invariant-loop-i : goal.invariant-loop-i
 invariant-loop-i g l =
     (lines : List (List ℕ))
     × LinesRead l.input lines (enumerate_source l.i-iterator)
-    × Sums (map (outcome (g.T.CharTable.starts l.table) (g.T.CharTable.continues l.table) (g.T.CharTable.shown l.table) (min (length l.initial.memory) (2 ^ 30))) lines) l.summary
+    × Sums (map (outcome (g.T.CharTable.starts l.table) (g.T.CharTable.continues l.table) (g.T.CharTable.shown l.table) (usable l.initial.memory)) lines) l.summary

@@ -11,4 +11,4 @@ returns-in_err-put_value g c =
 pub returns : goal.returns
 returns g c =
     let o = value_refusal (g.T.CharTable.starts c.args.table.now) (g.T.CharTable.continues c.args.table.now) (g.T.CharTable.shown c.args.table.now) c.args.settings c.args.value.now in
-    shown_whole o _ c.text.result c.new-buffer.ensures.space c.new-buffer.ensures.text (c.text.ensures ∙ c.into_parts-memory.ensures.text) c.in_ok-put_value.ensures
+    shown_whole o _ c.into_text.result c.new-buffer.ensures.space c.new-buffer.ensures.text c.into_text.ensures c.in_ok-put_value.ensures
