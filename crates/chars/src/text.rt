@@ -3,6 +3,7 @@ ghost use Rattle.std.specs.Prelude.{◌≡◌, ◌<◌, true, length, IfSome};
 ghost use Rattle.chars.specs.Utf8.{utf8};
 
 use crate::utf8::{Malformed, Scalars, front};
+use std::marker::Model;
 
 /// Bytes that are UTF-8, as RFC 3629 has it; the library's `str` has its own definition. Only `Text::new` makes them of bytes, so that whoever has a text need not check it again.
 #[derive(Clone, Copy)]
@@ -12,7 +13,7 @@ pub struct Text<'a> {
 }
 
 impl<'a> Text<'a> {
-    ghost use Rattle.chars.specs.Texts.{text_bytes, Checked, SplitsFirst};
+    ghost use Rattle.chars.specs.Texts.{text_bytes, characters, Checked, SplitsFirst};
 
     /// The text of the bytes, or where they are not UTF-8.
     pub fn new(bytes: &'a [u8]) -> Result<Text<'a>, Malformed>
@@ -42,5 +43,43 @@ impl<'a> Text<'a> {
                 bytes: &self.bytes[width..],
             },
         ))
+    }
+
+    /// The characters of the text, one after another.
+    pub fn chars(&self) -> Chars<'a>
+        ensures { result ≡ characters self.now }
+    {
+        Chars { rest: *self }
+    }
+}
+
+/// The characters of a text. As a value it is the list of those that are left.
+#[derive(Drop)]
+pub struct Chars<'a> {
+    rest: Text<'a>,
+}
+
+impl<'a> Model for Chars<'a> {
+    ghost use Rattle.std.specs.Prelude.{ℕ, List};
+    ghost use Rattle.chars.specs.Texts.{characters};
+
+    ghost Value = { List ℕ };
+
+    ghost view = { λ chars. characters chars.rest };
+}
+
+impl<'a> Iterator for Chars<'a> {
+    ghost use Rattle.std.specs.Iterator.{YieldsFirst, item_count};
+
+    type Item = char;
+
+    ghost next_gives = { YieldsFirst (λ cs. cs) };
+
+    ghost remaining = { item_count (λ cs. cs) };
+
+    fn next(&mut self) -> Option<char> {
+        let (c, rest) = self.rest.split_first()?;
+        self.rest = rest;
+        Some(c)
     }
 }

@@ -42,12 +42,5 @@ pub fn is_text_of<T: CharTable>(table: &T, class: Class, text: &[u8]) -> bool
 pub(crate) fn is_all_of<T: CharTable>(table: &T, class: Class, text: Text) -> bool
     ensures { result ≡ all (in_class (T.continues table.now) (T.shown table.now) class) (characters text.entry) }
 {
-    let mut rest = text;
-    while let Some((c, after)) = rest.split_first() {
-        if !class.holds(table, c) {
-            return false;
-        }
-        rest = after;
-    }
-    true
+    text.chars().all(|c| class.holds(table, c))
 }
