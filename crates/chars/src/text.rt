@@ -5,7 +5,8 @@ ghost use Rattle.chars.specs.Utf8.{utf8};
 use crate::utf8::{Malformed, Scalars, front};
 use std::marker::Model;
 
-/// Bytes that are UTF-8, as RFC 3629 has it; the library's `str` has its own definition. Only `Text::new` makes them of bytes, so that whoever has a text need not check it again.
+/// Bytes that are UTF-8. Only `Text::new` makes a text of bytes, so that whoever has one need not check it again.
+// No `str`, since what is UTF-8 is defined here by RFC 3629, and the library's text has a definition of its own.
 #[derive(Clone, Copy)]
 pub struct Text<'a> {
     bytes: &'a [u8],
