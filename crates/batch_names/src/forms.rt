@@ -35,7 +35,8 @@ fn put_name_line<O: Output, T: CharTable>(
     Ok(())
 }
 
-// The forms of a name, a line each.
+// The forms of a name, a line each. The output and the table are two parameters, since this is called with a gauge and with a
+// sink for one table.
 fn put_forms<O: Output, T: CharTable>(out: &mut O, table: &T, name: &[u8]) -> Result<(), Refusal>
     ensures { Writes O.room O.took (text_refusal name.now) out.old (forms (T.starts table.now) (T.continues table.now) (T.shown table.now) name.now) result out.new }
 {

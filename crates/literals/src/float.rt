@@ -138,6 +138,7 @@ fn put_float<O: Output>(out: &mut O, text: &[u8], suffix: Option<&[u8]>) -> Resu
 }
 
 /// A float from its text, with the suffix of its width where number suffixes are on.
+// The flag is the writer's setting; the suffix is the width's and stands beside no flag here.
 pub fn serialize_float<O: Output>(
     out: &mut O,
     text: &[u8],

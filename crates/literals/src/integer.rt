@@ -177,6 +177,7 @@ fn put_integer<O: Output, N: Integer>(out: &mut O, n: &N, number_suffixes: bool)
 }
 
 /// An integer, with the suffix of its type where number suffixes are on.
+// The flag is the writer's setting; the suffix is the type's and stands beside no flag here.
 pub fn serialize_integer<O: Output, N: Integer>(
     out: &mut O,
     n: &N,

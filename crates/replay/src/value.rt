@@ -56,6 +56,7 @@ pub enum Value {
     UnitVariant(Vec<u8>, Vec<u8>),
 }
 
+// The output and the table are two parameters here and below, as they are of the words.
 fn put_text<O: Output, T: CharTable>(
     out: &mut O,
     table: &T,
