@@ -18,17 +18,12 @@ fn has_quote(text: &[u8]) -> bool
     text.iter().any(|b| matches!(b, b'"' | b'\\'))
 }
 
-// The longest run of hashes anywhere in the text: two numbers in one pass, as the definition goes on from byte to byte.
+// The longest run of hashes anywhere in the text.
 fn count_hashes(text: &[u8]) -> usize
     ensures { result ≡ longest_hashes text.now }
 {
-    let mut run = 0usize;
-    let mut longest = 0usize;
-    for b in text {
-        run = if *b == b'#' { run + 1 } else { 0 };
-        longest = longest.max(run);
-    }
-    longest
+    let runs = text.split(|b| *b != b'#');
+    runs.map(|run| run.len()).max().unwrap_or(0)
 }
 
 fn put_hashes<O: Output>(out: &mut O, n: usize) -> Result<(), Full>
