@@ -15,7 +15,7 @@ use words::class::{Class, is_text_of};
 use words::name::identifier_form;
 use words::refusal::Refusal;
 
-// The handle, the table and the memory are passed on one by one, since the contract speaks of each.
+// Handle, table and memory one by one: two functions take them, and a struct would be built once and taken apart again.
 /// Prints the forms of each line of the input, and answers the summary of all that was read.
 pub fn print_all<T: CharTable>(
     rt: &HostRuntime,
@@ -81,6 +81,7 @@ impl fmt::Display for Reason<'_> {
                 write!(f, "no name: empty, or with a character that no name has")
             }
             Refusal::NotUtf8 => {
+                // Asked for again: with the place in the variant the refusals' numbers would be no discriminants.
                 let place = Text::new(self.name)
                     .err()
                     .map_or(0, |e| e.at)

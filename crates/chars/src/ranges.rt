@@ -26,6 +26,7 @@ pub struct Range {
 }
 
 /// The table of a list of ranges, which the caller lends.
+// No comparisons here, of texts and of cursors: nothing compares what is lent.
 #[derive(Clone, Copy)]
 pub struct Ranges<'a> {
     ranges: &'a [Range],
@@ -50,7 +51,7 @@ impl BadTable {
     }
 }
 
-// By hand, and not by a derive of `thiserror`: the number is that of the constant.
+// By hand: for a derive of `thiserror`, and this one message, `chars` would need its first crate.
 impl fmt::Display for BadTable {
     fn fmt<W: fmt::Write>(&self, f: &mut fmt::Formatter<W>) -> fmt::Result {
         write!(
@@ -169,7 +170,7 @@ impl Range {
     fn is_classed(self) -> bool
         ensures { result ≡ classed self }
     {
-        // A `for`, which knows the bound that the cast needs.
+        // As `all` the proof did not close: no lemma of the library tells what an inclusive range gives.
         for c in self.first..=self.last.min(0x7F) {
             if !self.is_agreeing(c as u8) {
                 return false;

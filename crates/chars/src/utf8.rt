@@ -1,6 +1,5 @@
 //! Strict UTF-8, as RFC 3629 has it: a cursor that hands out the scalar values of bytes.
-ghost use Rattle.std.specs.Prelude.{◌≡◌, length, if◌then◌else◌, Some, None};
-ghost use Rattle.chars.specs.Cursor.{left, position, Steps};
+ghost use Rattle.std.specs.Prelude.{◌≡◌, ◌≤◌, length, if◌then◌else◌, Some, None};
 ghost use Rattle.chars.specs.Utf8.{scalar, tail, two_bytes, three_bytes, four_bytes, of_two, of_three, of_four, Front, DecodingIsExact};
 
 /// Bytes are not UTF-8.
@@ -17,9 +16,12 @@ pub struct Scalars<'a> {
     rest: &'a [u8],
     // How many there were: a number beside the slice, since of what has been read only the length is asked for.
     len: usize,
+    ghost within: { length rest.now ≤ len },
 }
 
 impl<'a> Scalars<'a> {
+    ghost use Rattle.chars.specs.Cursor.{left, position, Steps};
+
     /// A cursor at the first of the bytes.
     pub fn new(bytes: &'a [u8]) -> Scalars<'a>
         ensures rest { left result ≡ bytes.now }
@@ -35,7 +37,7 @@ impl<'a> Scalars<'a> {
     pub fn position(&self) -> usize
         ensures { result ≡ position self.now }
     {
-        self.len.saturating_sub(self.rest.len())
+        self.len - self.rest.len()
     }
 
     /// The bytes that are still to be read.

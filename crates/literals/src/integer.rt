@@ -40,7 +40,8 @@ pub trait Integer {
     }
 }
 
-// Eight impls alike: each names its own suffix, and an impl that a macro writes has no ghost members.
+// Eight impls alike: each names its own suffix, and an impl that a macro writes has no ghost members. The number is told by a
+// method, whose clause names it, and not by a bound `Into<i128>`, which would have to be tied to it by a law.
 impl Integer for i8 {
     ghost value = { λ n. n };
 

@@ -53,6 +53,7 @@ impl<'a> Buffer<'a> {
 }
 
 /// The text in memory that a buffer gave back: the first `len` bytes, or all of them if there are fewer.
+// Memory and length, as `into_parts` gives them back.
 pub fn text(mem: &[u8], len: usize) -> &[u8]
     ensures { result.now ≡ take len mem.now }
 {

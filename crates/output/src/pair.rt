@@ -35,6 +35,7 @@ impl<'a> Pair<'a> {
         }
     }
 
+    // Memory and length each, as a buffer gives them back.
     /// Gives both memories back, each with how many of its first bytes are text: the text is those of the first
     /// memory, and then those of the second, which has some only where the first has no place left.
     pub fn into_parts(self) -> ((&'a mut [u8], usize), (&'a mut [u8], usize))

@@ -12,7 +12,7 @@ use literals::bytes::hex_pair;
 use std::alloc::{AllocError, Global};
 use std::io::Write;
 
-// The handle, the table and the memory are passed on one by one: two functions take them, and each goes another way.
+// Handle, table and memory one by one: two functions take them, and a struct would be built once and taken apart again.
 /// Answers each line of a script, but empty ones and those that begin with `#`.
 pub(crate) fn print_answers<T: CharTable>(
     rt: &HostRuntime,

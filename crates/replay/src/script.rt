@@ -17,7 +17,7 @@ pub(crate) struct Document {
     pub(crate) value: Value,
 }
 
-// The settings in front of the bar, as they are read.
+// The settings in front of the bar, as they are read. Whether they count is a flag and no Option, since they may come first.
 #[derive(Clone, Copy)]
 struct Head {
     configured: bool,

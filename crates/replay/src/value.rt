@@ -56,7 +56,8 @@ pub enum Value {
     UnitVariant(Vec<u8>, Vec<u8>),
 }
 
-// The output and the table are two parameters here and below, as they are of the words.
+// The output and the table are two parameters here and below, as they are of the words, and a setting is a flag with no value
+// beside it.
 fn put_text<O: Output, T: CharTable>(
     out: &mut O,
     table: &T,

@@ -70,6 +70,7 @@ fn is_reserved(name: &[u8]) -> bool
 fn is_bare<T: CharTable>(table: &T, name: Text) -> bool
     ensures { result ≡ bare (T.starts table.now) (T.continues table.now) (characters name.entry) }
 {
+    // As `is_some_and` the proof did not close: it does not learn what a closure of three tests gives.
     match name.split_first() {
         Some((c, rest)) => {
             is_first(table, c)
