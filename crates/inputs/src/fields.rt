@@ -3,7 +3,7 @@ ghost use Rattle.std.specs.Prelude.{◌≡◌, [], ◌∷◌, ◌++◌, IfSome, 
 ghost use Rattle.inputs.specs.Fields.{before, behind, led, past};
 
 /// The bytes before the first separator, and those behind it.
-pub(crate) fn split_once(bytes: &[u8], sep: u8) -> Option<(&[u8], &[u8])>
+pub fn split_once(bytes: &[u8], sep: u8) -> Option<(&[u8], &[u8])>
     ensures some { IfSome result (λ p. (p.0.now ≡ before sep bytes.now) × (p.1.now ≡ behind sep bytes.now) × (bytes.now ≡ p.0.now ++ sep ∷ p.1.now)) }
     ensures none { IfNone result ((bytes.now ≡ before sep bytes.now) × ([] ≡ behind sep bytes.now)) }
 {

@@ -53,7 +53,8 @@ pub fn read_ranges(heap: Global, text: &[u8]) -> anyhow::Result<Vec<Range>>
 
 /// The table of these ranges, or the message that they make none.
 pub fn table_of<'a>(ranges: &'a [Range]) -> anyhow::Result<Ranges<'a>>
-    ensures { IfOk result (λ t. IsTable ranges.now × (t.ranges.now ≡ ranges.now)) }
+    ensures ok { IfOk result (λ t. IsTable ranges.now × (t.ranges.now ≡ ranges.now)) }
+    ensures err { IfErr result (λ _. IsTable ranges.now → ⊥) }
 {
     Ok(Ranges::new(ranges)?)
 }

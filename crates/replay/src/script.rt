@@ -1,7 +1,7 @@
 //! Lines of call scripts: `settings | call`.
 use crate::value::{Settings, Value};
 use anyhow::{anyhow, ensure};
-use inputs::fields::split_field;
+use inputs::fields::{split_field, split_once};
 use inputs::hex::{hex_bytes, hex_number};
 use literals::float::Width;
 use std::alloc::Global;
@@ -81,8 +81,8 @@ pub(crate) fn document_of(heap: Global, line: &[u8]) -> anyhow::Result<Document>
     while !rest.is_empty() {
         let (word, after) = split_field(rest, b' ');
         if word == b"|".as_slice() {
-            let (call, more) = split_field(after, b' ');
-            ensure!(more.is_empty(), "more than one call");
+            let (call, more) = split_field(past_blanks(after), b' ');
+            ensure!(past_blanks(more).is_empty(), "more than one call");
             return Ok(Document {
                 settings: head.counted(),
                 space: head.space,
@@ -95,29 +95,52 @@ pub(crate) fn document_of(heap: Global, line: &[u8]) -> anyhow::Result<Document>
     Err(anyhow!("no bar between settings and calls"))
 }
 
+// What is behind the blanks in front.
+fn past_blanks(bytes: &[u8]) -> &[u8] {
+    let mut rest = bytes;
+    while let [b' ', more @ ..] = rest {
+        rest = more;
+    }
+    rest
+}
+
 // The value of a call.
 fn value_of(heap: Global, call: &[u8]) -> anyhow::Result<Value> {
-    let (kind, args) = split_field(call, b':');
+    let Some((kind, args)) = split_once(call, b':') else {
+        ensure!(
+            call == b"unit".as_slice(),
+            "a call that is not taken so far"
+        );
+        return Ok(Value::Unit);
+    };
     match kind {
-        b"bool" => bool_of(args),
-        b"i8" => Ok(Value::I8(number(args)?)),
-        b"i16" => Ok(Value::I16(number(args)?)),
-        b"i32" => Ok(Value::I32(number(args)?)),
-        b"i64" => Ok(Value::I64(number(args)?)),
-        b"u8" => Ok(Value::U8(number(args)?)),
-        b"u16" => Ok(Value::U16(number(args)?)),
-        b"u32" => Ok(Value::U32(number(args)?)),
-        b"u64" => Ok(Value::U64(number(args)?)),
-        b"f32" => Ok(Value::Float(Width::F32, float_text_of(heap, args)?)),
-        b"f64" => Ok(Value::Float(Width::F64, float_text_of(heap, args)?)),
-        b"char" => char_of(args),
-        b"str" => Ok(Value::Str(text_of(heap, args)?)),
-        b"bytes" => Ok(Value::Bytes(text_of(heap, args)?)),
-        b"unit" => Ok(Value::Unit),
-        b"ustruct" => Ok(Value::UnitStruct(text_of(heap, args)?)),
+        b"bool" => bool_of(one(args)?),
+        b"i8" => Ok(Value::I8(number(one(args)?)?)),
+        b"i16" => Ok(Value::I16(number(one(args)?)?)),
+        b"i32" => Ok(Value::I32(number(one(args)?)?)),
+        b"i64" => Ok(Value::I64(number(one(args)?)?)),
+        b"u8" => Ok(Value::U8(number(one(args)?)?)),
+        b"u16" => Ok(Value::U16(number(one(args)?)?)),
+        b"u32" => Ok(Value::U32(number(one(args)?)?)),
+        b"u64" => Ok(Value::U64(number(one(args)?)?)),
+        b"f32" => Ok(Value::Float(Width::F32, float_text_of(heap, args, 8)?)),
+        b"f64" => Ok(Value::Float(Width::F64, float_text_of(heap, args, 16)?)),
+        b"char" => char_of(one(args)?),
+        b"str" => Ok(Value::Str(text_of(heap, one(args)?)?)),
+        b"bytes" => Ok(Value::Bytes(text_of(heap, one(args)?)?)),
+        b"ustruct" => Ok(Value::UnitStruct(text_of(heap, one(args)?)?)),
         b"uvar" => variant_of(heap, args),
         _ => Err(anyhow!("a call that is not taken so far")),
     }
+}
+
+// The argument of a call that has one.
+fn one(args: &[u8]) -> anyhow::Result<&[u8]> {
+    ensure!(
+        split_once(args, b':').is_none(),
+        "a call with more arguments than it has"
+    );
+    Ok(args)
 }
 
 fn bool_of(args: &[u8]) -> anyhow::Result<Value> {
@@ -133,16 +156,22 @@ fn char_of(args: &[u8]) -> anyhow::Result<Value> {
     Ok(Value::Char(n))
 }
 
-// Behind the bits, which are for a program that has floats, stands the text of the float.
-fn float_text_of(heap: Global, args: &[u8]) -> anyhow::Result<Vec<u8>> {
-    let (_, text) = split_field(args, b':');
+// Behind the bits in hexadecimal, which are for a program that has floats, stands the text of the float.
+fn float_text_of(heap: Global, args: &[u8], most_digits: usize) -> anyhow::Result<Vec<u8>> {
+    let (bits, text) = split_field(args, b':');
     ensure!(!text.is_empty(), "a float without its text");
-    Ok(Vec::from_slice(heap, text)?)
+    ensure!(
+        !bits.is_empty() && bits.len() <= most_digits && bits.iter().all(|b| b.is_ascii_hexdigit()),
+        "the bits of a float are a number in hexadecimal"
+    );
+    Ok(Vec::from_slice(heap, one(text)?)?)
 }
 
 fn variant_of(heap: Global, args: &[u8]) -> anyhow::Result<Value> {
-    let (name, variant) = split_field(args, b':');
-    Ok(Value::UnitVariant(text_of(heap, name)?, text_of(heap, variant)?))
+    let (name, variant) = split_once(args, b':').ok_or_else(|| anyhow!(
+        "a variant without a name"
+    ))?;
+    Ok(Value::UnitVariant(text_of(heap, name)?, text_of(heap, one(variant)?)?))
 }
 
 // A text: `=` and the text itself, or its bytes in hexadecimal.

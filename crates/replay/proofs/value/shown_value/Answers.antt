@@ -1,4 +1,3 @@
-use Rattle.std.proofs.Common.{◌∙◌}
 use Rattle.words.proofs.Measured.{refusal_is, shown_refused, shown_whole}
 use Rattle.replay.specs.Values.{value_refusal}
 use Rattle.replay.proofs.value.shown_value.Goals as goal
