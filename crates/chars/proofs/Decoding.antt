@@ -244,18 +244,28 @@ scalars_push (d ∷ cs) c h k =
     and_from (scalar d) (scalars (cs ++ c ∷ [])) parts.0 (scalars_push cs c parts.1 k)
 
 -- some bytes, of which those before the rest are the bytes of scalar values
-abbrev pub Read : List ℕ → List ℕ → Type 0
-Read s rest = (cs : List ℕ) × (scalars cs ≡ true) × (s ≡ encodes cs ++ rest)
+pub record Read (s rest : List ℕ) : Type 0 where
+  pub read : List ℕ
+  pub are_scalars : scalars read ≡ true
+  pub whole : s ≡ encodes read ++ rest
 
 pub read_more : (s rest left : List ℕ) (c : ℕ) → scalar c ≡ true → rest ≡ encode c ++ left → Read s rest → Read s left
-read_more s rest left c k e (cs, h, p) =
-    (cs ++ c ∷ [], scalars_push cs c h k, p ∙ ap (λ z. encodes cs ++ z) e ∙ sym (append_assoc (encodes cs) (encode c) left) ∙ ap (λ z. z ++ left) (sym (encodes_push cs c)))
+read_more s rest left c k e r =
+    let cs = r.read in
+    record {
+      read = cs ++ c ∷ [];
+      are_scalars = scalars_push cs c r.are_scalars k;
+      whole = r.whole ∙ ap (λ z. encodes cs ++ z) e ∙ sym (append_assoc (encodes cs) (encode c) left) ∙ ap (λ z. z ++ left) (sym (encodes_push cs c));
+    }
 
 pub read_all : (s rest : List ℕ) → rest ≡ [] → Read s rest → utf8 s ≡ true
-read_all s rest e (cs, h, p) = ap is_some (ap decode (p ∙ ap (λ z. encodes cs ++ z) e ∙ append-nil (encodes cs)) ∙ decode_encodes cs h)
+read_all s rest e r = let cs = r.read in let h = r.are_scalars in let p = r.whole in ap is_some (ap decode (p ∙ ap (λ z. encodes cs ++ z) e ∙ append-nil (encodes cs)) ∙ decode_encodes cs h)
 
 pub read_broken : (s rest : List ℕ) (at : ℕ) → at ≡ length s - length rest → 0 < length rest → Front rest None → Read s rest → MalformedAt s (Some at)
-read_broken s rest at q l f (cs, h, p) =
+read_broken s rest at q l f r =
+    let cs = r.read in
+    let h = r.are_scalars in
+    let p = r.whole in
     let long : length s ≡ length (encodes cs) + length rest = ap length p ∙ length-append (encodes cs) rest in
     let here : length (encodes cs) ≡ at = omega arith in
     let done : take at s ≡ encodes cs = ap (take at) p ∙ take_at (encodes cs) rest at here in

@@ -1,5 +1,5 @@
 -- Membership in ranges that are in order.
-use Rattle.std.proofs.Common.{◌≡◌, ℕ, ◌+◌, ◌<◌, ◌≤◌, Bool, true, false, ◌&&◌, ◌||◌, leb, List, [], ◌∷◌, sym, refl, ◌∙◌, arith}
+use Rattle.std.proofs.Common.{◌≡◌, ℕ, ◌+◌, ◌<◌, ◌≤◌, Bool, true, false, ◌&&◌, ◌||◌, leb, List, [], ◌∷◌, ◌++◌, sym, refl, ap, ◌∙◌, arith}
 use Rattle.std.proofs.lemmas.Bool.{and_parts, and_from, and_left, and_right, leb-true, le-leb, lt-leb, false≢true}
 use Rattle.chars.specs.declared.ranges.Range.{Range}
 use Rattle.chars.specs.Ranges.{holds, in_set, whole, ordered}
@@ -67,3 +67,39 @@ below_first p r rs c o l u = not_first p r rs c (below_holds r c u) ∙ none_bel
 
 pub beyond_first : (p : Range → Bool) (r : Range) (rs : List Range) (c : ℕ) → r.last < c → in_set p (r ∷ rs) c ≡ in_set p rs c
 beyond_first p r rs c l = not_first p r rs c (beyond_holds r c l)
+
+-- parts of a list in order are in order
+lower : (lo lo' : ℕ) (rs : List Range) → lo' ≤ lo → ordered lo rs ≡ true → ordered lo' rs ≡ true
+lower lo lo' [] l h = refl
+lower lo lo' (r ∷ rs) l h =
+    let f = first_of lo r rs h in
+    let a = f.low in
+    first_from lo' r rs (omega arith) f.is_whole f.behind
+
+pub front_ordered : (lo : ℕ) (front back : List Range) → ordered lo (front ++ back) ≡ true → ordered lo front ≡ true
+front_ordered lo [] back h = refl
+front_ordered lo (r ∷ front) back h =
+    let f = first_of lo r (front ++ back) h in
+    first_from lo r front f.low f.is_whole (front_ordered (r.last + 1) front back f.behind)
+
+pub back_ordered : (lo : ℕ) (front back : List Range) → ordered lo (front ++ back) ≡ true → ordered lo back ≡ true
+back_ordered lo [] back h = h
+back_ordered lo (r ∷ front) back h =
+    let f = first_of lo r (front ++ back) h in
+    let a = f.low in
+    let b = f.not_empty in
+    lower (r.last + 1) lo back (omega arith) (back_ordered (r.last + 1) front back f.behind)
+
+-- what is below the back is in the front, and what is not below the back is there
+pub in_front : (p : Range → Bool) (front back : List Range) (lo c : ℕ) → ordered lo back ≡ true → c < lo → in_set p (front ++ back) c ≡ in_set p front c
+in_front p [] back lo c h l = none_below p back lo c h l
+in_front p (r ∷ front) back lo c h l = ap (λ b. (holds r c && p r) || b) (in_front p front back lo c h l)
+
+pub in_back : (p : Range → Bool) (lo : ℕ) (front : List Range) (r : Range) (back : List Range) (c : ℕ)
+    → ordered lo (front ++ r ∷ back) ≡ true → r.first ≤ c → in_set p (front ++ r ∷ back) c ≡ in_set p (r ∷ back) c
+in_back p lo [] r back c h l = refl
+in_back p lo (x ∷ front) r back c h l =
+    let f = first_of lo x (front ++ r ∷ back) h in
+    let g = first_of (x.last + 1) r back (back_ordered (x.last + 1) front (r ∷ back) f.behind) in
+    let a = g.low in
+    beyond_first p x (front ++ r ∷ back) c (omega arith) ∙ in_back p (x.last + 1) front r back c f.behind l

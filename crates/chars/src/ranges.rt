@@ -6,7 +6,6 @@ ghost use Rattle.chars.specs.Ranges.{IsTable, starting, continuing, showing, hol
 
 use crate::blank::BLANKS;
 use crate::table::{Ascii, CharTable};
-use std::cmp::Ordering;
 use std::error::Error;
 use std::fmt;
 
@@ -79,12 +78,25 @@ impl<'a> Ranges<'a> {
         }
     }
 
-    // The range that holds the character.
+    // The range that holds the character, looked for by halves. By hand, since it ends where the range is found: the library's
+    // search always goes on to the last half.
     fn find(&self, c: char) -> Option<Range>
         ensures { (p : Range → Bool) → in_set p self.now.ranges.now c ≡ found p result }
     {
-        let at = self.ranges.binary_search_by(|r| r.place(c)).ok()?;
-        Some(self.ranges[at])
+        let c = u32::from(c);
+        let mut left = self.ranges;
+        while !left.is_empty() {
+            let middle = left.len() / 2;
+            let r = left[middle];
+            if c < r.first {
+                left = &left[..middle];
+            } else if r.last < c {
+                left = &left[middle + 1..];
+            } else {
+                return Some(r);
+            }
+        }
+        None
     }
 }
 
@@ -125,25 +137,10 @@ impl<'a> CharTable for Ranges<'a> {
 }
 
 impl Range {
-    ghost use Rattle.chars.specs.Searches.{place};
-
     fn holds(self, c: u32) -> bool
         ensures { result ≡ holds self c }
     {
         (self.first..=self.last).contains(&c)
-    }
-
-    // Whether all of the range stands before the character, or holds it, or stands behind it.
-    fn place(self, c: char) -> Ordering
-        ensures { result ≡ place c self }
-    {
-        if self.last < u32::from(c) {
-            Ordering::Less
-        } else if u32::from(c) < self.first {
-            Ordering::Greater
-        } else {
-            Ordering::Equal
-        }
     }
 
     // Whether the range may stand in a table in which everything below `from` is told already.

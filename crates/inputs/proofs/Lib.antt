@@ -1,3 +1,3 @@
-mod Cuts
+pub mod Cuts
 mod Numbers
-mod Parting
+pub mod Parting

@@ -46,7 +46,7 @@ in_pairs (c ∷ d ∷ s) (suc n) e = ap (λ o. option_and_then (λ b. option_map
 pub pairs_of : (s : List ℕ) (ps : List (List ℕ)) (n : ℕ) → ps ≡ first_chunks 2 (length s / 2) s → n ≡ length s % 2 → true ≡ eqb n 0 → pair_bytes ps ≡ bytes_of s
 pairs_of s ps n e h z = ap pair_bytes e ∙ in_pairs s (length s / 2) (omega (arith, h, eqb-true n 0 (sym z)))
 
-pub odd_digit : (s : List ℕ) (n : ℕ) → length s ≡ n * 2 + 1 → None ≡ bytes_of s
+odd_digit : (s : List ℕ) (n : ℕ) → length s ≡ n * 2 + 1 → None ≡ bytes_of s
 odd_digit [] n e = absurd (omega (arith, e))
 odd_digit (c ∷ []) n e = refl
 odd_digit (c ∷ d ∷ s) zero e = absurd (omega (arith, e))
@@ -55,6 +55,9 @@ odd_digit (c ∷ d ∷ s) (suc n) e = none (byte_of c d) ∙ ap (λ o. option_an
     none : (o : Option ℕ) → None ≡ option_and_then (λ b. option_map {T = List ℕ} (λ bytes. b ∷ bytes) None) o
     none None = refl
     none (Some b) = refl
+
+pub odd_left : (s : List ℕ) → 0 < length s % 2 → None ≡ bytes_of s
+odd_left s l = odd_digit s (length s / 2) (omega arith)
 
 module _ (ps : List (List ℕ)) (i : ℕ) (done : List ℕ) where
   pub no_pair : i < length ps → byte_of (get_or (get_or ps i []) 0 0) (get_or (get_or ps i []) 1 0) ≡ None → option_map (λ bytes. done ++ bytes) (pair_bytes (drop i ps)) ≡ None

@@ -3,3 +3,4 @@ pub mod Sinks
 pub mod Buffers
 pub mod Pairs
 pub mod Usable
+pub mod Laws

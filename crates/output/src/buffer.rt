@@ -80,6 +80,10 @@ impl<'a> Sink for Buffer<'a> {
         if bytes.len() > self.space() {
             return Err(Full);
         }
+        // No copy for an empty piece, of which a text with many escapes has as many.
+        if bytes.is_empty() {
+            return Ok(());
+        }
         let end = self.used + bytes.len();
         self.mem[self.used..end].copy_from_slice(bytes);
         self.used = end;

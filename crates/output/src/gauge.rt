@@ -1,7 +1,6 @@
 //! An output that counts and keeps nothing, to learn whether something would fit.
 ghost use Rattle.std.specs.Prelude.{◌≡◌, ◌+◌, length};
-ghost use Rattle.std.proofs.Common.{arith};
-ghost use Rattle.std.proofs.lemmas.Grind.{common_steps};
+ghost use Rattle.output.specs.Laws.{used_adds};
 
 use crate::{Full, Output};
 
@@ -32,7 +31,7 @@ impl Output for Gauge {
 
     ghost took = { λ a x b. length x + b.room ≡ a.room };
 
-    ghost adds = { Prim.grind (arith, common_steps) };
+    ghost adds = { used_adds (λ g. g.room) };
 
     fn put(&mut self, bytes: &[u8]) -> Result<(), Full> {
         if bytes.len() > self.room {

@@ -4,8 +4,7 @@
 ghost use Rattle.std.specs.Prelude.{◌≡◌, ℕ, ◌-◌, false, List, ◌++◌, length, is_ok, if◌then◌else◌, nat_le};
 ghost use Rattle.output.specs.Puts.{Adds, Puts};
 ghost use Rattle.output.specs.Sinks.{Steady, Appended};
-ghost use Rattle.std.proofs.Common.{arith};
-ghost use Rattle.std.proofs.lemmas.Grind.{common_steps};
+ghost use Rattle.output.specs.Laws.{appended_adds};
 
 pub mod buffer;
 pub mod gauge;
@@ -65,7 +64,7 @@ impl<S: Sink> Output for S {
 
     ghost took = { Appended S.text S.keeps };
 
-    ghost adds = { Prim.grind (arith, common_steps, S.steady) };
+    ghost adds = { appended_adds S.text S.keeps S.steady };
 
     fn put(&mut self, bytes: &[u8]) -> Result<(), Full> {
         self.append(bytes)

@@ -1,8 +1,7 @@
 -- Hashes and quotes in the bytes of a text are those in its characters.
-use Rattle.std.proofs.Common.{◌≡◌, ℕ, suc, ◌+◌, ◌-◌, ◌<◌, ◌≤◌, max, true, false, cond, ◌||◌, eqb, List, [], ◌∷◌, ◌++◌, length, replicate, sym, refl, ap, ◌∙◌, ⊎_elim, arith, Bool, not, map, Option, Some, None, unwrap_or}
-use Rattle.std.specs.List.{slice_split, onto_first, fold, reduce}
-use Rattle.std.specs.Option.{option_map}
-use Rattle.std.proofs.lemmas.Bool.{ne_eqb, eq-eqb, and_parts, eqb-true, false≢true}
+use Rattle.std.proofs.Common.{◌≡◌, ℕ, suc, ◌+◌, ◌-◌, ◌<◌, ◌≤◌, max, true, false, cond, ◌||◌, eqb, List, [], ◌∷◌, ◌++◌, length, get_or, drop, replicate, sym, refl, ap, ◌∙◌, ⊎_elim, arith}
+use Rattle.std.proofs.lemmas.List.{drop_more, drop_all}
+use Rattle.std.proofs.lemmas.Bool.{ne_eqb, eq-eqb, and_parts}
 use Rattle.chars.specs.Texts.{characters, text_bytes}
 use Rattle.chars.specs.declared.text.Text.{Text}
 use Rattle.chars.specs.Utf8.{scalar, scalars, encodes, utf8, decoded}
@@ -78,56 +77,37 @@ raw_is t s e h = ap (λ b. cond b (0x72 ∷ fenced (longest_hashes s) s) (quoted
 pub quoted_is : (t : Text) (s : List ℕ) → s ≡ text_bytes t → false ≡ holds_quote s → quoted s ≡ unescaped_or_raw_str (characters t)
 quoted_is t s e h = ap (λ b. cond b (0x72 ∷ fenced (longest_hashes s) s) (quoted s)) h ∙ form_is s (ap utf8 e ∙ t.is_utf8) ∙ ap (λ z. unescaped_or_raw_str (decoded z)) e
 
--- a text, cut at each byte that is no hash: the first part is the hashes in front, and the longest part the longest run
-abbrev runs : List ℕ → List (List ℕ)
-runs s = slice_split (λ b. not (eqb b hash)) s
+-- counting: the longest run of a text whose first i bytes are counted, where `longest` is the longest run so far
+-- and `run` the one that goes on at i
+abbrev pub Counted : List ℕ → ℕ → ℕ → ℕ → Type 0
+Counted s i run longest = max longest (max (run + leading_hashes (drop i s)) (longest_hashes (drop i s))) ≡ longest_hashes s
 
-record Parts (s : List ℕ) : Type 0 where
-  first : List ℕ
-  others : List (List ℕ)
-  longest_other : ℕ
-  cut : runs s ≡ first ∷ others
-  in_front : length first ≡ leading_hashes s
-  longest : max (length first) longest_other ≡ longest_hashes s
-  among : (n : ℕ) → fold max n (map length others) ≡ max n longest_other
+module _ (s : List ℕ) where
+  pub counted_none : Counted s 0 0 0
+  counted_none = omega (arith, leading_longest s)
 
-parts : (s : List ℕ) → Parts s
-parts [] = record { first = []; others = []; longest_other = 0; cut = refl; in_front = refl; longest = refl; among = λ n. omega arith }
-parts (c ∷ s) = step (parts s) (eqb c hash) refl
-  where
-    step : Parts s → (t : Bool) → eqb c hash ≡ t → Parts (c ∷ s)
-    step p true e =
-        let front = leading_hash c s (eqb-true c hash e) in
-        record {
-          first = c ∷ p.first;
-          others = p.others;
-          longest_other = p.longest_other;
-          cut = ap (λ t. cond (not t) ([] ∷ runs s) (onto_first c (runs s))) e ∙ ap (onto_first c) p.cut;
-          in_front = omega (arith, p.in_front, front);
-          longest = omega (arith, p.in_front, p.longest, front);
-          among = p.among;
-        }
-    step p false e =
-        let other : c ≡ hash → ⊥ = λ q. false≢true (sym e ∙ eq-eqb c hash q) in
-        record {
-          first = [];
-          others = p.first ∷ p.others;
-          longest_other = longest_hashes s;
-          cut = ap (λ t. cond (not t) ([] ∷ runs s) (onto_first c (runs s))) e ∙ ap (λ z. [] ∷ z) p.cut;
-          in_front = sym (leading_other c s other);
-          longest = omega (arith, longest_other c s other);
-          among = λ n. p.among (max n (length p.first)) ∙ omega (arith, p.longest);
-        }
+  pub counted_hash : (i run longest : ℕ) → i < length s → get_or s i 0 ≡ hash → Counted s i run longest → Counted s (i + 1) (run + 1) (max longest (run + 1))
+  counted_hash i run longest l q h =
+      let c = get_or s i 0 in
+      let more = drop (i + 1) s in
+      let here = drop_more s i 0 l in
+      let one = ap leading_hashes here ∙ leading_hash c more q in
+      let two : longest_hashes (drop i s) ≡ max (leading_hashes (c ∷ more)) (longest_hashes more) = ap longest_hashes here in
+      omega (arith, leading_hash c more q)
 
-pub longest_run : (s : List ℕ) (o : Option ℕ) → option_map (λ x. x) o ≡ reduce max (map length (runs s)) → unwrap_or o 0 ≡ longest_hashes s
-longest_run s o e = step o (e ∙ ap (λ z. reduce max (map length z)) p.cut)
-  where
-    p : Parts s
-    p = parts s
+  pub counted_other : (i run longest : ℕ) → i < length s → run ≤ longest → (get_or s i 0 ≡ hash → ⊥) → Counted s i run longest → Counted s (i + 1) 0 (max longest 0)
+  counted_other i run longest l k n h =
+      let c = get_or s i 0 in
+      let more = drop (i + 1) s in
+      let here = drop_more s i 0 l in
+      let one : leading_hashes (drop i s) ≡ 0 = ap leading_hashes here ∙ leading_other c more n in
+      let two : longest_hashes (drop i s) ≡ longest_hashes more = ap longest_hashes here ∙ longest_other c more n in
+      omega (arith, leading_longest more)
 
-    step : (o : Option ℕ) → option_map (λ x. x) o ≡ Some (fold max (length p.first) (map length p.others)) → unwrap_or o 0 ≡ longest_hashes s
-    step None q = absurd (cc)
-    step (Some n) q = let same : n ≡ fold max (length p.first) (map length p.others) = cc in same ∙ p.among (length p.first) ∙ p.longest
+  pub counted_all : (i run longest : ℕ) → length s ≤ i → run ≤ longest → Counted s i run longest → longest ≡ longest_hashes s
+  counted_all i run longest l k h =
+      let none = drop_all i s l in
+      omega (arith, ap leading_hashes none, ap longest_hashes none)
 
 -- the hashes that are left
 pub hashes_next : (n i : ℕ) → i < n → hash ∷ replicate (n - (i + 1)) hash ≡ replicate (n - i) hash

@@ -4,4 +4,5 @@ mod Naming
 mod Numbers
 mod Reserved
 mod Runs
+mod TextOf
 pub mod Writing

@@ -44,8 +44,8 @@ shown_refused o x s e h k = let p = err_from_is_err_and s h in step o s (p.1 ∙
 
 -- and of one that is written into an empty sink
 module _ {X : Type 0} {text : X → List ℕ} {space : X → ℕ} {keeps : X → X → Type 0} where
-  pub shown_whole : (o : Option Refusal) {a b : X} {x : List ℕ} {u : Unit {0}} (n : ℕ) (part : Bor (List ℕ)) → space a ≡ n → text a ≡ [] → part.now ≡ text b → Writes space (Appended text keeps) o a x (Ok u) b → Shown (refused_or_short o x n) x (Ok part)
-  shown_whole (Some e) n part q h k w = let z : ◌≡◌ {A = ℕ} 0 1 = cc (w.refused e refl).0 in absurd (omega arith)
-  shown_whole None {x = x} n part q h k w =
+  pub written_whole : (o : Option Refusal) {a b : X} {x : List ℕ} {u : Unit {0}} (n : ℕ) → space a ≡ n → text a ≡ [] → Writes space (Appended text keeps) o a x (Ok u) b → (refused_or_short o x n ≡ None) × (text b ≡ x)
+  written_whole (Some e) n q h w = let z : ◌≡◌ {A = ℕ} 0 1 = cc (w.refused e refl).0 in absurd (omega arith)
+  written_whole None {x = x} n q h w =
       let fits : leb (length x) n ≡ true = ap (leb (length x)) (sym q) ∙ sym (puts_value (w.puts refl)) in
-      (ap (λ t. cond t None (Some NoSpace)) fits, k ∙ (puts_whole (w.puts refl)).grown ∙ ap (λ z. z ++ x) h)
+      (ap (λ t. cond t None (Some NoSpace)) fits, (puts_whole (w.puts refl)).grown ∙ ap (λ z. z ++ x) h)

