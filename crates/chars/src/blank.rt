@@ -2,14 +2,21 @@
 ghost use Rattle.std.specs.Prelude.{◌≡◌};
 ghost use Rattle.chars.specs.Blanks.{blank};
 
-// The eleven of Unicode's Pattern_White_Space (UAX #31).
-pub(crate) const BLANKS: [char; 11] = [
-    ' ', '\t', '\n', '\x0B', '\x0C', '\r', '\u{85}', '\u{200E}', '\u{200F}', '\u{2028}', '\u{2029}',
-];
-
 /// Whether the character is a blank: one of the eleven of Unicode's Pattern_White_Space (UAX #31).
 pub fn is_whitespace_char(c: char) -> bool
     ensures { result ≡ blank c }
 {
-    BLANKS.contains(&c)
+    matches!(
+        c,
+        ' ' | '\t'
+            | '\n'
+            | '\x0B'
+            | '\x0C'
+            | '\r'
+            | '\u{85}'
+            | '\u{200E}'
+            | '\u{200F}'
+            | '\u{2028}'
+            | '\u{2029}'
+    )
 }

@@ -4,7 +4,6 @@ ghost use Rattle.chars.specs.Blanks.{blanks, none_in};
 ghost use Rattle.chars.specs.RangeChecks.{agreeing, classed, fits, gap, good};
 ghost use Rattle.chars.specs.Ranges.{IsTable, starting, continuing, showing, holds, whole, in_set};
 
-use crate::blank::BLANKS;
 use crate::table::{Ascii, CharTable};
 use std::error::Error;
 use std::fmt;
@@ -40,6 +39,11 @@ const BAD_TABLE: u8 = 5;
 
 // At most so many ranges are a table.
 const MOST: usize = 4096;
+
+// The eleven blanks, to be looked for in a range; `is_whitespace_char` tells them without a walk over them.
+const BLANKS: [char; 11] = [
+    ' ', '\t', '\n', '\x0B', '\x0C', '\r', '\u{85}', '\u{200E}', '\u{200F}', '\u{2028}', '\u{2029}',
+];
 
 impl BadTable {
     /// The refusal's number.

@@ -17,6 +17,7 @@ impl<'a> Text<'a> {
     ghost use Rattle.chars.specs.Texts.{text_bytes, characters, Checked, SplitsFirst};
 
     /// The text of the bytes, or where they are not UTF-8.
+    // What a cursor has read is told by these lemmas, by which the check finds the proof.
     #[tactic(auto, using(crate::proofs::Decoding::read_broken, crate::proofs::Decoding::read_more, crate::proofs::Decoding::read_all, crate::proofs::Decoding::shorter))]
     pub fn new(bytes: &'a [u8]) -> Result<Text<'a>, Malformed>
         ensures { Checked bytes.now result }

@@ -80,7 +80,7 @@ impl<'a> Sink for Buffer<'a> {
         if bytes.len() > self.space() {
             return Err(Full);
         }
-        // No copy for an empty piece, of which a text with many escapes has as many.
+        // No copy for an empty piece: between escapes that stand side by side a text puts one.
         if bytes.is_empty() {
             return Ok(());
         }
